@@ -24,8 +24,8 @@ OTHER_ADDRESS = "192.0.2.7"
 # Who serves, and who attacks.
 SERVER_USER, MALLORY = 65534, 65533
 PATIENCE = 60 * float(os.environ.get("LONGEST", 2))
-# What a line of the log has at most, and what of a client's text.
-LONGEST_LINE = 1000
+# What a line of the log has at most: 200 bytes of name, method and path, each of which may be written as four signs, and the rest.
+LONGEST_LINE = 3 * 200 * 4 + 100
 VIEW = message(b"GET", b"/me")
 
 

@@ -55,6 +55,20 @@ def places():
     return f"{clients} clients, the longest wait {worst:.3f} s"
 
 
+def newcomers():
+    """Where none has sent anything yet, the one that came first gives way, and not within its first second."""
+    with Server(PROGRAM, PORT) as server, contextlib.ExitStack() as ending:
+        begun = time.monotonic()
+        crowd = [ending.enter_context(server.connect()) for _ in range(PLACES)]
+        late = ending.enter_context(server.connect())
+        answer = answer_to(late, LIST)
+        took = time.monotonic() - begun
+        expect(f"an answer: {answer[:80]}", is_whole(answer) and status_of(answer) == 200)
+        expect(f"one gave way after {took:.2f} s", took >= 1)
+        expect("one gave way", sum(has_ended(client) for client in crowd) == 1)
+    return f"one more than {PLACES} silent clients was answered after {took:.2f} s"
+
+
 def take_ready(waiting):
     """Ends those whose answers came, and gives those that still wait."""
     ready, _, _ = select.select(waiting, [], [], 1)
@@ -175,7 +189,7 @@ def main():
     most = resource.getrlimit(resource.RLIMIT_NOFILE)[1]
     resource.setrlimit(resource.RLIMIT_NOFILE, (most, most))
     make_file(PROGRAM)
-    parts = {"places": places, "descriptors": descriptors, "readers": readers, "kills": kills}
+    parts = {"places": places, "newcomers": newcomers, "descriptors": descriptors, "readers": readers, "kills": kills}
     begun = time.monotonic()
     told = parts[PART]()
     print(f"{PART}: {told}, in {time.monotonic() - begun:.0f} s", flush=True)

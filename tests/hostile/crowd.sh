@@ -5,8 +5,8 @@ set -eu
 
 # How long a client that the server has a place for may wait for an answer, in seconds.
 longest=${LONGEST:-1}
-# Which of the four are tried.
-parts=${PARTS:-places descriptors readers kills}
+# Which of the five are tried.
+parts=${PARTS:-places newcomers descriptors readers kills}
 . "$(dirname "$0")/../lib/prepare.sh"
 
 for part in $parts; do

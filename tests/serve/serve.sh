@@ -59,25 +59,33 @@ MOMENT ann GET /boards/1/list 401 BYTES MS
 MOMENT - GET /no"\x5cx01 404 BYTES MS'
 expect "the log" "$logged" "$(sed -n 's/^[0-9]\{8\}T[0-9]\{6\}Z \(.*\) [0-9][0-9]* [0-9][0-9]*$/MOMENT \1 BYTES MS/p' log)"
 
-# A folder is a page where it has an index.html, and at most 64 files.
-mkdir page
+# A folder is a page where it has an index.html, and with the folders in it at most 128 files with 8 MiB.
+mkdir page page/core
 ends 1 "taskboard: NoPage" serve other.db --port "$port" --page nowhere
 ends 1 "taskboard: NoPage" serve other.db --port "$port" --page page
 for number in $(seq 64); do
-    echo "// $number" >"page/$number.js"
+    echo "// $number" | tee "page/core/$number.js" >"page/$number.js"
 done
 echo '<p>Hi</p>' >page/index.html
 ends 1 "taskboard: NoPage" serve other.db --port "$port" --page page
 rm page/64.js
-# A folder, a link and a pipe are passed over, so that the files are still 64.
-mkdir page/folder.js
+# Folders further down or with a dot, links and pipes are passed over, so that the files are still 128.
+mkdir page/folder.js page/core/deep page/.git
+echo deep | tee page/core/deep/1.js page/folder.js/1.js >page/.git/1.js
 ln -s index.html page/link.html
-mkfifo page/pipe.js
-timeout 120 "$program" serve other.db --port "$port" --connections 1 --page page 2>/dev/null &
+ln -s core page/linked
+mkfifo page/pipe.js page/core/pipe.js
+timeout 120 "$program" serve other.db --port "$port" --connections 7 --page page 2>/dev/null &
 server=$!
-expect "a page of 64 files" '<p>Hi</p>' "$(send GET / '')"
+expect "a page of 128 files" '<p>Hi</p>' "$(send GET / '')"
+expect "a file in a folder" '// 64' "$(send GET /core/64.js '')"
+for target in /core/deep/1.js /folder.js/1.js /.git/1.js /linked/1.js /core/../index.html; do
+    expect "$target" '{"name":"NoRoute"}' "$(send GET $target '')"
+done
 wait "$server"
 server=
+head -c 8388608 /dev/zero >page/core/64.js
+ends 1 "taskboard: NoPage" serve other.db --port "$port" --page page
 
 # Imports a text, which `ends` passes on.
 import() {

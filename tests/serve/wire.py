@@ -26,9 +26,10 @@ def written(page, room):
     """The words of an order that serves a page of these files, which are written into the folder `page` of a room."""
     if not page:
         return []
-    os.mkdir(f"{room}/page")
     for name, text in page.items():
-        pathlib.Path(room, "page", name).write_bytes(text)
+        path = pathlib.Path(room, "page", name)
+        path.parent.mkdir(parents=True, exist_ok=True)
+        path.write_bytes(text)
     return ["--page", "page"]
 
 

@@ -1,24 +1,30 @@
 -- What the loop promises of a server over a desk is a session of the headline.
-use Rattle.std.proofs.Common.{◌∙◌, ◌≡◌, ℕ, Bool, true, false, List, [], Option, Result, Ok, subst, sym}
+use Rattle.std.proofs.Common.{◌≡◌, ℕ, Bool, true, false, List, [], Option, Result, refl, subst}
+use Rattle.std.specs.Prelude.{◌≢◌}
+use Rattle.sqlite.specs.Files.{file_state}
 use Rattle.sqlite.specs.State.{State as Database}
 use Rattle.sqlite_disk.specs.declared.Disk.{Ghosts as DiskGhosts}
 use Rattle.sqlite_store.specs.declared.store.FileStore.{FileStore}
 use Rattle.taskboard.specs.Running.{IsRun, IsServed}
-use Rattle.taskboard.specs.Serve.{ComesTo, ServerAt, owed_at}
+use Rattle.taskboard.specs.Page.{IsPageOf}
+use Rattle.taskboard.specs.Serve.{ComesTo, IsCause, IsServedBy, IsServerEnd, IsServerRun, ServerAt, limit_of, owed_at}
 use Rattle.tb_calls.specs.Call.{State}
 use Rattle.tb_calls.specs.declared.keep.Keep.{Ghosts}
-use Rattle.tb_event_loop.proofs.Seeing.{does_seen}
-use Rattle.tb_event_loop.specs.Deeds.{Does}
+use Rattle.taskboard.proofs.Seeing.{does_to_seen}
+use Rattle.tb_command_line.specs.declared.order.ServeOrder.{ServeOrder}
+use Rattle.tb_event_loop.specs.Deeds.{DoesTo, done_in}
 use Rattle.tb_event_loop.specs.Done.{Done, ends_in}
 use Rattle.tb_event_loop.specs.Ending.{has_stopped}
 use Rattle.tb_event_loop.specs.History.{EndsAll}
 use Rattle.tb_event_loop.specs.Serving.{Runs}
 use Rattle.tb_event_loop.specs.Sockets.{Called}
 use Rattle.tb_event_loop.specs.declared.fault.LoopFault.{LoopFault}
+use Rattle.tb_event_loop.specs.declared.fault.LoopFault.TheVariants as loop
 use Rattle.tb_headline.specs.Headline.{IsCut, IsPlayed, WhileHonest}
 use Rattle.tb_keeper.specs.declared.sql_keep.SqlKeep.{SqlKeep}
+use Rattle.tb_program.specs.declared.fault.Fault.{Fault}
 use Rattle.tb_serve.specs.Server.{IsStopped, Plays, talk_at}
-use Rattle.tb_serve.specs.Turns.{Happening, Talk}
+use Rattle.tb_serve.specs.Turns.{Happening, Talk, silent}
 use Rattle.tb_server.specs.Serves.{Makes, Serves, StopsAtLast}
 use Rattle.tb_site.specs.declared.site.Site.{Site}
 
@@ -76,12 +82,12 @@ module _ {S : Type 0} (g : Ghosts (SqlKeep S)) where
         (subst (λ (x : SqlKeep S). CutsSession (g.is_honest x) (g.holds x) (g.after_stop x) (base x)) same cuts);
   }
 
-  -- a run that ended well, where of the clock nothing is known
-  pub ended_well : {C E : Type 0} (gives : List (Option ℕ) → C → C → Type 0) (clock : C) (site kept : Site) (talks later : List Talk)
-      (limit wanted : Option ℕ) (x : E) (history : List (ℕ × Done)) (old new : SqlKeep S) (d : Database)
-      → limit ≡ wanted → IsRun g gives clock site kept talks later limit (Ok x) history old new d
-      → IsRun g {C = Unit {0}} {E = Unit {0}} (λ moments clock later_clock. Unit {0}) tt site kept talks later wanted (Ok tt) history old new d
-  ended_well gives clock site kept talks later limit wanted x history old new d same run = record {
+  -- a run of which nothing is known of the clock
+  pub of_any_clock : {C : Type 0} (gives : List (Option ℕ) → C → C → Type 0) (clock : C) (site kept : Site) (talks later : List Talk)
+      (limit wanted : Option ℕ) (end : Result (Unit {0}) LoopFault) (history : List (ℕ × Done)) (old new : SqlKeep S) (d : Database)
+      → limit ≡ wanted → IsRun g gives clock site kept talks later limit end history old new d
+      → IsRun g {C = Unit {0}} {E = Unit {0}} (λ moments clock later_clock. Unit {0}) tt site kept talks later wanted end history old new d
+  of_any_clock gives clock site kept talks later limit wanted end history old new d same run = record {
     later_clock = tt;
     serves = record {
       page = run.serves.page;
@@ -93,14 +99,56 @@ module _ {S : Type 0} (g : Ghosts (SqlKeep S)) where
       honest = run.serves.honest;
       run = run.serves.run;
     };
-    ended = sym same ∙ run.ended;
+    ended = subst (λ (most : Option ℕ). EndsAll end most (ends_in history)) same run.ended;
     session = run.session;
   }
 
 -- what was done to a server over sockets, as it is said of the file's server
 pub does_of : {D : Type 0} {d : DiskGhosts D} (g : Ghosts (SqlKeep (FileStore D d))) {N V : Type 0} {asks : List Called → N → N → Type 0}
-    {happens : Bool → List (ℕ × Done) → V → V → Type 0} {owed : V → ℕ → List ℕ} {old new : N × V} (runs : Runs asks happens owed false old new)
-    (see : V → ServerAt g) → ((history : List (ℕ × Done)) (a b : V) → happens false history a b → ComesTo g false history (see a) (see b))
+    {happens : Bool → List (ℕ × Done) → V → V → Type 0} {owed : V → ℕ → List ℕ} (stopped : Bool) {old new : N × V} (runs : Runs asks happens owed stopped old new)
+    (see : V → ServerAt g) → ((halted : Bool) (history : List (ℕ × Done)) (a b : V) → happens halted history a b → ComesTo g halted history (see a) (see b))
     → ((v : V) (place : ℕ) → owed_at g (see v) place ≡ owed v place)
-    → Does (ComesTo g) (owed_at g) runs.deeds (see old.1) (see new.1)
-does_of g runs see seen same = does_seen runs see (ComesTo g) (owed_at g) seen same
+    → DoesTo (ComesTo g) (owed_at g) stopped runs.deeds (see old.1) (see new.1)
+does_of g {happens = happens} {owed = owed} stopped {old = old} {new = new} runs see seen same =
+    does_to_seen happens owed see (ComesTo g) (owed_at g) seen same stopped runs.deeds old.1 new.1 runs.does
+
+-- a run of a server is what the headline and the file know of it
+pub served_by : {D C N V : Type 0} {d : DiskGhosts D} (g : Ghosts (SqlKeep (FileStore D d))) {asks : List Called → N → N → Type 0}
+    {happens : Bool → List (ℕ × Done) → V → V → Type 0} {owed : V → ℕ → List ℕ} (order : ServeOrder) (end : Result (Unit {0}) LoopFault)
+    (gives : List (Option ℕ) → C → C → Type 0) (clock : C) (limit : Option ℕ) (before after : N) (old new : V) (see : V → ServerAt g)
+    (runs : Runs asks happens owed (has_stopped end) (before, old) (after, new))
+    → ((halted : Bool) (history : List (ℕ × Done)) (a b : V) → happens halted history a b → ComesTo g halted history (see a) (see b))
+    → ((v : V) (place : ℕ) → owed_at g (see v) place ≡ owed v place)
+    → IsPageOf order.page (see old).page → ((c : ℕ) → talk_at (see old).talks c ≡ silent) → limit ≡ limit_of order.connections
+    → IsRun g gives clock (see old).page (see new).page (see old).talks (see new).talks limit end (done_in runs.deeds) (see old).keep (see new).keep (file_state (see new).keep.conn)
+    → IsServedBy g (λ calls. asks calls before after) order end (see old).keep (see new).keep
+served_by g order end gives clock limit before after old new see runs seen same page begin ends run = record {
+  site = (see old).page;
+  page = page;
+  kept = (see new).page;
+  talks = (see old).talks;
+  later = (see new).talks;
+  begin = begin;
+  deeds = runs.deeds;
+  farewells = runs.farewells;
+  asked = runs.asked;
+  run = of_any_clock g gives clock (see old).page (see new).page (see old).talks (see new).talks limit (limit_of order.connections) end (done_in runs.deeds)
+      (see old).keep (see new).keep (file_state (see new).keep.conn) ends run;
+  does = does_of g (has_stopped end) runs see seen same;
+}
+
+-- the loop ended for its sockets, its file or its store, and that is so
+pub cause_of : {F C G : Type 0} (why : LoopFault) → why ≢ loop.Memory → (why ≡ loop.Sockets → C) → (why ≡ loop.Moved → G) → (why ≡ loop.Store → F) → IsCause F C G why
+cause_of loop.Memory other sockets moved store = absurd (other refl)
+cause_of loop.Moved other sockets moved store = moved refl
+cause_of loop.Sockets other sockets moved store = sockets refl
+cause_of loop.Store other sockets moved store = store refl
+
+-- what is said of a desk is said of what equals it
+module _ {D : Type 0} {d : DiskGhosts D} (g : Ghosts (SqlKeep (FileStore D d))) (asks : List Called → Type 0) (order : ServeOrder)
+    (keep other : SqlKeep (FileStore D d)) (same : keep ≡ other) where
+  pub run_as : IsServerRun g asks order keep → IsServerRun g asks order other
+  run_as is = subst (λ (k : SqlKeep (FileStore D d)). IsServerRun g asks order k) same is
+
+  pub end_as : (is_gone : Type 0) (told : Fault) → IsServerEnd g asks is_gone order told keep → IsServerEnd g asks is_gone order told other
+  end_as is_gone told is = subst (λ (k : SqlKeep (FileStore D d)). IsServerEnd g asks is_gone order told k) same is

@@ -3,8 +3,10 @@ use Rattle.std.specs.Prelude.{◌≡◌, ◌⊎◌, ℕ, Bool, true, false, List
 use Rattle.sqlite.specs.Held.{Held}
 use Rattle.sqlite_disk.specs.declared.Disk.{Ghosts as DiskGhosts}
 use Rattle.sqlite_store.specs.declared.store.FileStore.{FileStore}
+use Rattle.sqlite_wal.specs.Recovery.{Image}
 use Rattle.taskboard.specs.Orders.{is_skip, script_text}
 use Rattle.taskboard.specs.Sent.{IsUnsentOver}
+use Rattle.taskboard.specs.Serve.{IsServerFailed}
 use Rattle.taskboard.specs.declared.TheConstants.{VERSION}
 use Rattle.tb_calls.specs.Call.{State, opening}
 use Rattle.tb_calls.specs.declared.keep.Keep.{Ghosts}
@@ -23,7 +25,7 @@ use Rattle.tb_command_line.specs.declared.order.SendOrder.{SendOrder}
 use Rattle.tb_command_line.specs.declared.order.ViewOrder.{ViewOrder}
 use Rattle.tb_files.specs.Check.{IsCheckCut}
 use Rattle.tb_files.specs.Failed.{IsImportFailed, IsRunFailed, may_print, may_print_parts}
-use Rattle.tb_files.specs.File.{InSession}
+use Rattle.tb_files.specs.File.{InSession, IsFoundIn}
 use Rattle.tb_files.specs.Init.{IsNotMade}
 use Rattle.tb_files.specs.Key.{IsKeyFailed}
 use Rattle.tb_files.specs.NotDone.{IsNotDone, failure_of}
@@ -54,11 +56,13 @@ IsUnclean skips text told = told ≡ fault.Memory
 abbrev pub IsUnread : Fault → Type 0
 IsUnread told = (told ≡ fault.ReadFailed) ⊎ (told ≡ fault.Memory)
 
-module _ {D : Type 0} {d : DiskGhosts D} (g : Ghosts (SqlKeep (FileStore D d))) where
-  -- it was carried out over what some connection found, up to this fault
+module _ {D : Type 0} {d : DiskGhosts D} (g : Ghosts (SqlKeep (FileStore D d)))
+    (start : Image) where
+  -- it was carried out over what a connection found in these bytes, up to this fault
   pub record IsOver (is : Held (FileStore D d) → NotDone (Held (FileStore D d)) → Type 0)
       (failed : OrderFault) : Type 0 where
     pub found : Held (FileStore D d)
+    pub is_found : IsFoundIn start found
     pub undone : NotDone (Held (FileStore D d))
     pub done : is found undone
     pub told : failed ≡ failure_of undone
@@ -68,10 +72,10 @@ module _ {D : Type 0} {d : DiskGhosts D} (g : Ghosts (SqlKeep (FileStore D d))) 
       IsUnfound failed ⊎ IsOver (λ found undone. IsNotMade g found s undone) failed
 
 module _ {D W : Type 0} {d : DiskGhosts D} (g : Ghosts (SqlKeep (FileStore D d)))
-    (contents : W → Option (List ℕ)) where
+    (start : Image) (contents : W → Option (List ℕ)) where
   -- nothing was printed, or a prefix of what a session shows; where the writer failed, one had begun
   abbrev pub IsUnshown : ViewOrder → W → W → OrderFault → Type 0
-  IsUnshown order before after failed = ((after ≡ before) × IsUnfound failed) ⊎ IsOver g
+  IsUnshown order before after failed = ((after ≡ before) × IsUnfound failed) ⊎ IsOver g start
       (λ found undone. IsNotDone g is_of_showing found undone
       × ((failure_of undone).fault ≡ fault.WriteFailed → InSession g found
       (λ old. IsCutShort g (λ at. Unit {0}) order old (contents before) (contents after)))
@@ -80,7 +84,7 @@ module _ {D W : Type 0} {d : DiskGhosts D} (g : Ghosts (SqlKeep (FileStore D d))
 
   -- nothing was printed, or a prefix of what was counted
   abbrev pub IsUnchecked : W → W → OrderFault → Type 0
-  IsUnchecked before after failed = ((after ≡ before) × IsUnfound failed) ⊎ IsOver g
+  IsUnchecked before after failed = ((after ≡ before) × IsUnfound failed) ⊎ IsOver g start
       (λ found undone. IsNotDone g is_of_answers found undone
       × ((after ≡ before) ⊎ InSession g found
       (λ old. IsCheckCut old (contents before) (contents after)))) failed
@@ -88,14 +92,14 @@ module _ {D W : Type 0} {d : DiskGhosts D} (g : Ghosts (SqlKeep (FileStore D d))
   -- an import by one call
   abbrev pub IsUnimported : ImportOrder → Option (List ℕ) → W → W → OrderFault → Type 0
   IsUnimported order input before after failed =
-      IsImportFailed g contents (λ at. Unit {0}) order input before after failed.fault
+      IsImportFailed g start contents (λ at. Unit {0}) order input before after failed.fault
       × (may_print failed.fault ≡ false → after ≡ before)
       × IfSome failed.item (IsBadIn order input)
 
   -- and in parts
   abbrev pub IsUnimportedInParts : ImportOrder → Option (List ℕ) → W → W → OrderFault → Type 0
   IsUnimportedInParts order input before after failed =
-      IsRunFailed g contents (λ at. Unit {0}) order input before after failed.fault
+      IsRunFailed g start contents (λ at. Unit {0}) order input before after failed.fault
       × (may_print_parts failed.fault ≡ false → after ≡ before)
       × IfSome failed.item (IsBadAmong order input)
 
@@ -129,26 +133,27 @@ module _ {D W : Type 0} {d : DiskGhosts D} (g : Ghosts (SqlKeep (FileStore D d))
       ((after ≡ before) × IsUnread failed.fault) ⊎ IsCutWith order input before after failed
 
 module _ {D M W : Type 0} {d : DiskGhosts D} (g : Ghosts (SqlKeep (FileStore D d)))
-    (follows : List Event → ServerLine M → ServerLine M → Type 0)
+    (start : Image) (follows : List Event → ServerLine M → ServerLine M → Type 0)
     (contents : W → Option (List ℕ)) where
   -- With an input, and a writer before and after it.
   abbrev pub IsLeft : Order → Option (List ℕ) → W → W → OrderFault → Type 0
   IsLeft (Init order) input before after failed =
-      (after ≡ before) × IsUnmade g (opening order.name order.key) failed
-  IsLeft (Serve order) input before after failed = after ≡ before
+      (after ≡ before) × IsUnmade g start (opening order.name order.key) failed
+  IsLeft (Serve order) input before after failed =
+      (after ≡ before) × IsServerFailed g start order failed.fault
   IsLeft Run input before after failed = IfSome input
       (λ script. AppendsFront (contents before) (contents after) (script_text script))
   IsLeft (Import order) input before after failed =
-      IsUnimported g contents order input before after failed
+      IsUnimported g start contents order input before after failed
   IsLeft (ImportAll order) input before after failed =
-      IsUnimportedInParts g contents order input before after failed
+      IsUnimportedInParts g start contents order input before after failed
   IsLeft (Clean order) input before after failed =
-      IsUncleaned g contents order input before after failed
+      IsUncleaned g start contents order input before after failed
   IsLeft (View order) input before after failed =
-      IsUnshown g contents order before after failed
-  IsLeft (Check file) input before after failed = IsUnchecked g contents before after failed
+      IsUnshown g start contents order before after failed
+  IsLeft (Check file) input before after failed = IsUnchecked g start contents before after failed
   IsLeft (Key order) input before after failed =
-      IsKeyFailed g contents (λ at. Unit {0}) order input before after failed.fault
+      IsKeyFailed g start contents (λ at. Unit {0}) order input before after failed.fault
       × (may_print failed.fault ≡ false → after ≡ before)
   IsLeft (Send order) input before after failed =
       IsUnsentOver follows contents order before after failed.fault

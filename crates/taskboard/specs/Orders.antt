@@ -4,10 +4,11 @@ use Rattle.std.specs.Io.KnownBytes.{Appends}
 use Rattle.sqlite.specs.Held.{Held}
 use Rattle.sqlite_disk.specs.declared.Disk.{Ghosts as DiskGhosts}
 use Rattle.sqlite_store.specs.declared.store.FileStore.{FileStore}
+use Rattle.sqlite_wal.specs.Recovery.{Image}
 use Rattle.taskboard.specs.Ending.{ending_if}
 use Rattle.taskboard.specs.Mine.{IsMine}
 use Rattle.taskboard.specs.Sent.{IsSentOver}
-use Rattle.taskboard.specs.Serve.{IsServerRun, is_of_serving}
+use Rattle.taskboard.specs.Serve.{IsServerRun, asks_machine, is_of_serving}
 use Rattle.taskboard.specs.declared.TheConstants.{VERSION}
 use Rattle.tb_calls.specs.Call.{opening}
 use Rattle.tb_calls.specs.declared.keep.Keep.{Ghosts}
@@ -22,7 +23,7 @@ use Rattle.tb_command_line.specs.declared.order.ImportOrder.{ImportOrder}
 use Rattle.tb_command_line.specs.declared.order.Order.{Order}
 use Rattle.tb_command_line.specs.declared.order.Order.TheVariants.{Init, Serve, Run, Import, ImportAll, Clean, View, Check, Key, Send, My, Help, Version}
 use Rattle.tb_files.specs.Check.{IsChecked}
-use Rattle.tb_files.specs.File.{InSession}
+use Rattle.tb_files.specs.File.{BeginsSession, IsFoundIn}
 use Rattle.tb_files.specs.Faults.{is_of_checking, is_of_imports, is_of_keys, is_of_views}
 use Rattle.tb_files.specs.Import.{IsImported, IsImportedInParts}
 use Rattle.tb_files.specs.Init.{IsMade}
@@ -85,13 +86,13 @@ abbrev pub IsTold : Option (List ℕ) → Option (List ℕ) → Ending → List 
 IsTold before after ending text = (ending ≡ Accepted) × Appends before after text
 
 module _ {D W : Type 0} {d : DiskGhosts D} (g : Ghosts (SqlKeep (FileStore D d)))
-    (contents : W → Option (List ℕ)) where
+    (start : Image) (contents : W → Option (List ℕ)) where
   -- an input that is cleaned, by one call or in parts
   abbrev pub IsBrought : Bool → ImportOrder → List ℕ → W → W → Ending → Type 0
   IsBrought true order text before after ending =
-      IsImportedInParts g (λ at. Unit {0}) order (Some text) (contents before) (contents after) ending
+      IsImportedInParts g start (λ at. Unit {0}) order (Some text) (contents before) (contents after) ending
   IsBrought false order text before after ending =
-      IsImported g (λ at. Unit {0}) order (Some text) (contents before) (contents after) ending
+      IsImported g start (λ at. Unit {0}) order (Some text) (contents before) (contents after) ending
 
   -- Nothing is brought where it is only looked at, or where a task can't be taken and isn't to be left out: the order is refused then.
   abbrev pub IsCleanedBy : CleanMode → Bool → ImportOrder → Cleaned → W → W → Ending → Type 0
@@ -116,30 +117,31 @@ module _ {D W : Type 0} {d : DiskGhosts D} (g : Ghosts (SqlKeep (FileStore D d))
     pub brings : IsCleanedBy order.mode order.is_all order.import cleaned before after ending
 
 module _ {D M W : Type 0} {d : DiskGhosts D} (g : Ghosts (SqlKeep (FileStore D d)))
-    (follows : List Event → ServerLine M → ServerLine M → Type 0)
+    (start : Image) (follows : List Event → ServerLine M → ServerLine M → Type 0)
     (contents : W → Option (List ℕ)) where
-  -- With an input, and a writer before and after it. Which file a path leads to, and which moments the machine's clock gives, isn't known.
+  -- With an input, and a writer before and after it. The file and its log held these bytes. Which moments the machine's clock gives isn't known.
   abbrev pub IsDone : Order → Option (List ℕ) → W → W → Ending → Type 0
   IsDone (Init order) input before after ending =
-      (found : Held (FileStore D d)) × ((ending ≡ Accepted)
+      (found : Held (FileStore D d)) × IsFoundIn start found × ((ending ≡ Accepted)
       × IsMade g found (opening order.name order.key))
-  IsDone (Serve order) input before after ending = (ending ≡ Accepted) × IsServerRun g order
+  IsDone (Serve order) input before after ending = (ending ≡ Accepted)
+      × BeginsSession g start (IsServerRun g asks_machine order)
   IsDone Run input before after ending = (ending ≡ Accepted)
       × IfSome input (λ script. Appends (contents before) (contents after) (script_text script))
   IsDone (Import order) input before after ending =
-      IsImported g (λ at. Unit {0}) order input (contents before) (contents after) ending
+      IsImported g start (λ at. Unit {0}) order input (contents before) (contents after) ending
   IsDone (ImportAll order) input before after ending =
-      IsImportedInParts g (λ at. Unit {0}) order input (contents before) (contents after) ending
+      IsImportedInParts g start (λ at. Unit {0}) order input (contents before) (contents after) ending
   IsDone (Clean order) input before after ending =
-      IsCleaned g contents order input before after ending
+      IsCleaned g start contents order input before after ending
   IsDone (View order) input before after ending =
-      (found : Held (FileStore D d)) × InSession g found
+      BeginsSession g start
       (λ old. IsShown g (λ at. Unit {0}) order old (contents before) (contents after) ending)
   IsDone (Check file) input before after ending =
-      (found : Held (FileStore D d)) × InSession g found
+      BeginsSession g start
       (λ old. IsChecked old (contents before) (contents after) ending)
   IsDone (Key order) input before after ending =
-      IsKeyGiven g (λ at. Unit {0}) order input (contents before) (contents after) ending
+      IsKeyGiven g start (λ at. Unit {0}) order input (contents before) (contents after) ending
   IsDone (Send order) input before after ending =
       IsSentOver follows contents order before after ending
   IsDone (My order) input before after ending =

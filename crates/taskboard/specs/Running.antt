@@ -30,7 +30,7 @@ abbrev pub HasLaps : {N V P E : Type 0} → (List Called → N → N → Type 0)
     → (List Bool → P → P → Type 0) → Service V
     → Result E LoopFault → EventLoop → N × V × P → N × V × P → Type 0
 HasLaps asks last_told looks g result before old new =
-    IsMadeOfLaps asks last_told looks g.follows g.gives_file g.held_at g.owed_at result before old new
+    IsMadeOfLaps asks last_told looks g.follows g.gives_file g.held_at g.owed_at g.wants result before old new
 
 module _ {S : Type 0} (g : Ghosts (SqlKeep S)) where
   -- This was done to the connections of a server, each turn at the moment that the clock gave for it. From the state at which the desk

@@ -1,6 +1,7 @@
 //! Imports into a file whose text is cleaned first.
 ghost use Rattle.std.specs.Io.KnownBytes.{Appends};
 ghost use Rattle.std.specs.Prelude.{◌≡◌, IfErr, IfOk, IfSome, List, Ok, Some, true, ℕ};
+ghost use Rattle.sqlite_wal.specs.Files.{image_at};
 ghost use Rattle.taskboard.specs.Ending.{ending_if};
 ghost use Rattle.taskboard.specs.Failing.{IsCutAfter, IsUnbrought, IsUnclean, IsUncleaned, IsUnread};
 ghost use Rattle.taskboard.specs.Orders.{IsBrought, IsCleaned, IsCleanedBy, is_skip};
@@ -10,6 +11,7 @@ ghost use Rattle.tb_program.specs.declared.fault.Fault.TheVariants.{WriteFailed}
 ghost use Rattle.tb_values.specs.Appends.{AppendsFront};
 
 use crate::clock::MachineClock;
+use sqlite_disk::Start;
 use std::alloc::Global;
 use std::io::{ErrorKind, Read, Write};
 use tb_calls::Keep;
@@ -25,21 +27,22 @@ const NOTHING_CAME: &str =
     "Nothing was imported. --skip leaves out what can't be taken, and imports the rest.";
 
 /// Cleans the text of an input and imports it, or tells what cleaning would do.
-pub(crate) fn clean_into_file<R: Read + Drop, W: Write>(
+pub(crate) fn clean_into_file<S: Start, R: Read + Drop, W: Write>(
     rt: &HostRuntime,
     order: &CleanOrder,
     reader: R,
     writer: &mut W,
+    start: S,
 ) -> Result<Ending, OrderFault>
-    ensures done { IfOk result (IsCleaned ⟦<SqlKeep<RealFile> as Keep>⟧ W.contents
+    ensures done { IfOk result (IsCleaned ⟦<SqlKeep<RealFile<S>> as Keep>⟧ (image_at S.Start) W.contents
         order.now (R.remaining reader) writer.old writer.new) }
-    ensures left { IfErr result (IsUncleaned ⟦<SqlKeep<RealFile> as Keep>⟧ W.contents
+    ensures left { IfErr result (IsUncleaned ⟦<SqlKeep<RealFile<S>> as Keep>⟧ (image_at S.Start) W.contents
         order.now (R.remaining reader) writer.old writer.new) }
     ensures fault { IfErr result (λ failed. is_of_imports failed.fault ≡ true) }
 {
     let text = read_all(rt.alloc(), reader)?;
     let cleaned = cleaned(rt.alloc(), &text, is_skip(order.mode))?;
-    bring(rt, order, cleaned, writer)
+    bring(rt, order, cleaned, writer, start)
 }
 
 fn is_skip(mode: CleanMode) -> bool
@@ -65,15 +68,16 @@ fn cleaned(alloc: Global, text: &Items<u8>, skips: bool) -> Result<Cleaned, Faul
 }
 
 /// Tells the notes, and brings the cleaned text where that is asked for and nothing prevents it.
-fn bring<W: Write>(
+fn bring<S: Start, W: Write>(
     rt: &HostRuntime,
     order: &CleanOrder,
     cleaned: Cleaned,
     writer: &mut W,
+    start: S,
 ) -> Result<Ending, OrderFault>
-    ensures done { IfOk result (IsCleanedBy ⟦<SqlKeep<RealFile> as Keep>⟧ W.contents
+    ensures done { IfOk result (IsCleanedBy ⟦<SqlKeep<RealFile<S>> as Keep>⟧ (image_at S.Start) W.contents
         order.now.mode order.now.is_all order.now.import cleaned writer.old writer.new) }
-    ensures left { IfErr result (IsCutAfter ⟦<SqlKeep<RealFile> as Keep>⟧ W.contents
+    ensures left { IfErr result (IsCutAfter ⟦<SqlKeep<RealFile<S>> as Keep>⟧ (image_at S.Start) W.contents
         order.now.mode order.now.is_all order.now.import cleaned writer.old writer.new) }
     ensures fault { IfErr result (λ failed. is_of_imports failed.fault ≡ true) }
 {
@@ -85,11 +89,25 @@ fn bring<W: Write>(
                 let _ = print_line(&mut rt.stderr(), NOTHING_CAME);
                 return Ok(Ending::Refused);
             }
-            bring_text(rt, order.is_all, &order.import, &cleaned.text, writer)
+            bring_text(
+                rt,
+                order.is_all,
+                &order.import,
+                &cleaned.text,
+                writer,
+                start,
+            )
         }
         CleanMode::Skip => {
             let _ = print_text(&mut rt.stderr(), cleaned.notes.as_str());
-            bring_text(rt, order.is_all, &order.import, &cleaned.text, writer)
+            bring_text(
+                rt,
+                order.is_all,
+                &order.import,
+                &cleaned.text,
+                writer,
+                start,
+            )
         }
     }
 }
@@ -110,24 +128,25 @@ pub(crate) fn tell_notes<W: Write>(cleaned: &Cleaned, writer: &mut W) -> Result<
     }
 }
 
-fn bring_text<W: Write>(
+fn bring_text<S: Start, W: Write>(
     rt: &HostRuntime,
     is_all: bool,
     order: &ImportOrder,
     text: &Items<u8>,
     writer: &mut W,
+    start: S,
 ) -> Result<Ending, OrderFault>
-    ensures done { IfOk result (IsBrought ⟦<SqlKeep<RealFile> as Keep>⟧ W.contents
+    ensures done { IfOk result (IsBrought ⟦<SqlKeep<RealFile<S>> as Keep>⟧ (image_at S.Start) W.contents
         is_all order.now text.now writer.old writer.new) }
-    ensures left { IfErr result (IsUnbrought ⟦<SqlKeep<RealFile> as Keep>⟧ W.contents
+    ensures left { IfErr result (IsUnbrought ⟦<SqlKeep<RealFile<S>> as Keep>⟧ (image_at S.Start) W.contents
         is_all order.now text.now writer.old writer.new) }
     ensures fault { IfErr result (λ failed. is_of_imports failed.fault ≡ true) }
 {
     let mut clock = MachineClock { rt };
     if is_all {
-        import_parts_into_file(rt, order, text.as_slice(), &mut clock, writer)
+        import_parts_into_file(rt, order, text.as_slice(), &mut clock, writer, start)
     } else {
-        import_into_file(rt, order, text.as_slice(), &mut clock, writer)
+        import_into_file(rt, order, text.as_slice(), &mut clock, writer, start)
     }
 }
 

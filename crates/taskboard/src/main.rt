@@ -5,6 +5,7 @@
 
 ghost use Rattle.std.specs.Io.KnownBytes.{Appends};
 ghost use Rattle.std.specs.Prelude.{◌≡◌, ◌≢◌, Err, IfErr, IfOk, IfSome, Ok, OnErr, true};
+ghost use Rattle.sqlite_wal.specs.Files.{image_at};
 ghost use Rattle.taskboard.specs.Failing.{IsLeft};
 ghost use Rattle.taskboard.specs.Orders.{IsDone, IsNamed, is_of_order, is_of_telling, script_text};
 ghost use Rattle.tb_orders.specs.Faults.{is_of_scripts};
@@ -15,6 +16,7 @@ ghost use Rattle.tb_values.specs.Appends.{AppendsFront};
 mod cleaning;
 mod clock;
 mod file_orders;
+mod laws;
 mod mine;
 mod my_cleaning;
 mod my_deeds;
@@ -25,6 +27,7 @@ mod sending;
 mod serve;
 mod served_file;
 mod standard_streams;
+mod ticks;
 
 use crate::cleaning::clean_into_file;
 use crate::clock::MachineClock;
@@ -33,6 +36,7 @@ use crate::mine::ask_mine;
 use crate::sending::send;
 use crate::serve::serve_file;
 use crate::standard_streams::hold_standard_streams;
+use sqlite_disk::{Start, Unknown};
 use std::alloc::Global;
 use std::io::{Read, Write};
 use std::process::ExitCode;
@@ -40,11 +44,9 @@ use tb_calls::Keep;
 use tb_causes::{tell_cause, tell_words};
 use tb_client::Line;
 use tb_command_line::{Order, Topic};
-use tb_files::{RealFile, import_into_file, import_parts_into_file};
+use tb_files::{RealFile, fault_of_script, import_into_file, import_parts_into_file};
 use tb_keeper::SqlKeep;
-use tb_orders::{
-    Ending, MachineChance, OrderFault, fault_of_script, print_fault, read_order, status_of,
-};
+use tb_orders::{Ending, MachineChance, OrderFault, print_fault, read_order, status_of};
 use tb_program::{Fault, print_text};
 use tb_script::{Watched, run_lines};
 use tb_sending::{MachineDial, ServerLine, name_call};
@@ -59,7 +61,7 @@ proved with logic dac8208d650f15bf
 fn main(rt: HostRuntime) -> ExitCode {
     let _held = hold_standard_streams(&rt);
     let end = match read_order(&rt) {
-        Ok(order) => end_of(&rt, order, rt.stdin(), &mut rt.stdout()),
+        Ok(order) => end_of(&rt, order, rt.stdin(), &mut rt.stdout(), Unknown),
         Err(fault) => {
             let _ = print_fault(fault, &mut rt.stderr());
             let _ = tell_words(&rt, &mut rt.stderr(), fault, Topic::Program.text());
@@ -70,19 +72,20 @@ fn main(rt: HostRuntime) -> ExitCode {
 }
 
 /// How an order ends, whose fault is told with its cause.
-fn end_of<R: Read + Drop, W: Write>(
+fn end_of<S: Start, R: Read + Drop, W: Write>(
     rt: &HostRuntime,
     mut order: Order,
     reader: R,
     writer: &mut W,
+    start: S,
 ) -> Result<Ending, Fault>
     ensures done { IfOk result (λ ending. (named : _) × IsNamed order named
-        × IsDone ⟦<SqlKeep<RealFile> as Keep>⟧
+        × IsDone ⟦<SqlKeep<RealFile<S>> as Keep>⟧ (image_at S.Start)
         ⟦<ServerLine<MachineDial<'static>> as Line>⟧.follows W.contents
         named (R.remaining reader) writer.old writer.new ending) }
     ensures left { IfErr result (λ fault. (named : _) × IsNamed order named
         × (failed : _) × (failed.fault ≡ fault)
-        × IsLeft ⟦<SqlKeep<RealFile> as Keep>⟧
+        × IsLeft ⟦<SqlKeep<RealFile<S>> as Keep>⟧ (image_at S.Start)
         ⟦<ServerLine<MachineDial<'static>> as Line>⟧.follows W.contents
         named (R.remaining reader) writer.old writer.new failed) }
     ensures fault { IfErr result (λ fault. is_of_order order fault ≡ true) }
@@ -90,7 +93,7 @@ fn end_of<R: Read + Drop, W: Write>(
     if let Order::Send(order) = &mut order {
         name_call(&mut MachineChance::new(rt), order);
     }
-    match carry_out(rt, &mut order, reader, writer) {
+    match carry_out(rt, &mut order, reader, writer, start) {
         Ok(ending) => Ok(ending),
         Err(failed) => {
             if !is_told(&order, failed.fault) {
@@ -108,35 +111,36 @@ fn is_told(order: &Order, fault: Fault) -> bool {
 }
 
 /// Carries out an order; of an import alone more than the fault may be told.
-fn carry_out<R: Read + Drop, W: Write>(
+fn carry_out<S: Start, R: Read + Drop, W: Write>(
     rt: &HostRuntime,
     order: &mut Order,
     reader: R,
     writer: &mut W,
+    start: S,
 ) -> Result<Ending, OrderFault>
     ensures done { IfOk result
-        (IsDone ⟦<SqlKeep<RealFile> as Keep>⟧
+        (IsDone ⟦<SqlKeep<RealFile<S>> as Keep>⟧ (image_at S.Start)
         ⟦<ServerLine<MachineDial<'static>> as Line>⟧.follows W.contents
         order.old (R.remaining reader) writer.old writer.new) }
-    ensures left { IfErr result (IsLeft ⟦<SqlKeep<RealFile> as Keep>⟧
+    ensures left { IfErr result (IsLeft ⟦<SqlKeep<RealFile<S>> as Keep>⟧ (image_at S.Start)
         ⟦<ServerLine<MachineDial<'static>> as Line>⟧.follows W.contents
         order.old (R.remaining reader) writer.old writer.new) }
     ensures fault { IfErr result (λ failed. is_of_order order.old failed.fault ≡ true) }
 {
     match order {
-        Order::Init(order) => init(rt, order),
-        Order::Serve(order) => alone(serve_file(rt, order)),
+        Order::Init(order) => init(rt, order, start),
+        Order::Serve(order) => alone(serve_file(rt, order, start)),
         Order::Run => alone(run_script(rt.alloc(), &mut Watched::new(reader), writer)),
         Order::Import(order) => {
-            import_into_file(rt, order, reader, &mut MachineClock { rt }, writer)
+            import_into_file(rt, order, reader, &mut MachineClock { rt }, writer, start)
         }
         Order::ImportAll(order) => {
-            import_parts_into_file(rt, order, reader, &mut MachineClock { rt }, writer)
+            import_parts_into_file(rt, order, reader, &mut MachineClock { rt }, writer, start)
         }
-        Order::Clean(order) => clean_into_file(rt, order, reader, writer),
-        Order::View(order) => view(rt, order, writer),
-        Order::Check(file) => check(rt, file, writer),
-        Order::Key(order) => alone(give_key(rt, order, reader, writer)),
+        Order::Clean(order) => clean_into_file(rt, order, reader, writer, start),
+        Order::View(order) => view(rt, order, writer, start),
+        Order::Check(file) => check(rt, file, writer, start),
+        Order::Key(order) => alone(give_key(rt, order, reader, writer, start)),
         Order::Send(order) => alone(send(rt, order, writer)),
         Order::My(order) => alone(ask_mine(rt, order, reader, writer)),
         Order::Help(topic) => alone(tell(writer, topic.text())),

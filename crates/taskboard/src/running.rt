@@ -1,5 +1,5 @@
 //! The loop over a server whose desk is over a file: what it leaves is a session of the headline, however it ends.
-ghost use Rattle.std.specs.Prelude.{◌≡◌, Err, IfErr, IfOk, Ok, false, true};
+ghost use Rattle.std.specs.Prelude.{◌≡◌, ◌≢◌, Err, IfErr, IfOk, Ok, false, true};
 ghost use Rattle.sqlite.specs.Held.{state};
 ghost use Rattle.sqlite.specs.State.{HasCleanDisk};
 ghost use Rattle.taskboard.specs.Running.{HasLaps, IsRun};
@@ -7,15 +7,14 @@ ghost use Rattle.tb_event_loop.specs.Deeds.{done_in};
 ghost use Rattle.tb_event_loop.specs.Ending.{has_stopped};
 ghost use Rattle.tb_event_loop.specs.History.{still_to_end};
 ghost use Rattle.tb_event_loop.specs.Serving.{IsCutOff, Runs};
-ghost use Rattle.tb_event_loop.specs.declared.fault.LoopFault.TheVariants.{Moved, Sockets, Store};
+ghost use Rattle.tb_event_loop.specs.declared.fault.LoopFault.TheVariants.{Memory, Moved, Sockets, Store};
 ghost use Rattle.tb_headline.specs.Headline.{IsAt};
 
 use sqlite::Alter;
 use std::io::Write;
-use std::time::Clock as Ticks;
 use tb_calls::Keep;
 use tb_desk::Desk;
-use tb_event_loop::{EventLoop, Journal, LoopFault, Service, Sockets, Watch};
+use tb_event_loop::{EventLoop, Journal, LoopFault, Service, Sockets, Ticks, Watch};
 use tb_headline::session::serves_session;
 use tb_keeper::SqlKeep;
 use tb_program::Clock;
@@ -62,6 +61,7 @@ where
     ensures cause { IfErr result (λ e. e.0 ≡ Sockets
         → IsCutOff N.follows sockets.old sockets.new) }
     ensures moved { IfErr result (λ e. e.0 ≡ Moved → P.is_gone watch.new) }
+    ensures memory { IfErr result (λ e. e.0 ≢ Memory) }
     ensures failed { IfErr result (λ e. e.0 ≡ Store
         → ⟦<SqlKeep<S> as Keep>⟧.has_failed e.1 ≡ true) }
 {

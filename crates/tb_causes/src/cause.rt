@@ -50,7 +50,7 @@ const NO_KEY_FILE: &str =
 const NO_LISTEN: &str = "The port can't be listened on.";
 
 const NO_PAGE: &str =
-    "The folder of --page can't be read, has no index.html, or has more than 64 files or 4 MiB of a page: correct the name, or let this user read it and its files.";
+    "The folder of --page can't be read, has no index.html, or has more than 128 files or 8 MiB of a page: correct the name, or let this user read it and its files.";
 
 const NOT_EMPTY: &str =
     "The file has tables already, and is as it was: give a name that no file has.";

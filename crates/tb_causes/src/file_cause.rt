@@ -6,7 +6,7 @@ use sqlite::{Connection, Error, ErrorCode};
 use std::fs;
 use std::io::ErrorKind;
 use std::os::unix::fs::MetadataExt;
-use tb_wal::{LogFault, find_log_fault};
+use tb_wal::{LogFault, MachineBeside, find_log_fault};
 
 const FOLDER: &str = "The file's name is that of a folder.";
 
@@ -71,7 +71,7 @@ pub(crate) fn cause_of_file(rt: &HostRuntime, path: &str) -> &'static str
 }
 
 fn look_at(rt: &HostRuntime, path: &str) -> FileCause {
-    if let Ok(Some(fault)) = find_log_fault(rt, path) {
+    if let Ok(Some(fault)) = find_log_fault(&MachineBeside::new(rt, path)) {
         return FileCause::Log(fault);
     }
     match fs::metadata(rt, path) {

@@ -2,7 +2,7 @@
 use Rattle.std.proofs.Common.{◌≡◌, ℕ, ◌<◌, ◌≤◌, Bool, true, false, List, [], ◌∷◌, ◌++◌, length, take, drop, refl, sym, ap, ◌∙◌, subst, append-nil, append_assoc, inl, inr, arith}
 use Rattle.std.proofs.lemmas.Bool.{and_from, and_parts, false≢true}
 use Rattle.std.proofs.lemmas.List.{length-take-le, take-append-drop}
-use Rattle.tb_event_loop.specs.Deeds.{Acts, ActsAt, AreAt, Begins, Comes, Deed, Did, Does, DoesTo, GivesTurn, IsRead, IsWrite, Owes, TurnsOrNot, called, calls_by, calls_in, done_by, done_in, gave_turn}
+use Rattle.tb_event_loop.specs.Deeds.{Acts, ActsAt, AreAt, Begins, Comes, Deed, Did, Does, DoesTo, GivesTurn, Owes, TurnsOrNot, called, calls_by, calls_in, done_by, done_in, gave_turn}
 use Rattle.tb_event_loop.specs.Done.{Done, came, ends_in, opened, turned, went}
 use Rattle.tb_event_loop.specs.Sockets.{Called, Quietly, accepted, are_quiet, closed, deaf, dropped, is_quiet, read, seated, shut, unaccepted, unread, unwritten, waited, wrote}
 use Rattle.tb_event_loop.proofs.Doing.{done_append}
@@ -224,11 +224,11 @@ module _ {N V : Type 0} (asks : List Called → N → N → Type 0) (happens : B
   did_read stopped place [] a b done = record { deeds = called (read place []) ∷ []; done = (done, tt); ends = refl }
   did_read stopped place (byte ∷ bytes) a b done = record { deeds = called (read place (byte ∷ bytes)) ∷ []; done = (done, (refl, tt)); ends = refl }
 
-  pub begins_read : (stopped : Bool) (place : ℕ) (bytes : List ℕ) (a b : N × V) → Acts asks happens owed stopped (called (read place bytes) ∷ []) a b
-      → Begins (ActsAt place asks happens owed) stopped (IsRead place) a b
-  begins_read stopped place [] a b done = record { first = called (read place []); is = refl; more = []; done = (done, tt); ends = refl }
-  begins_read stopped place (byte ∷ bytes) a b done =
-      record { first = called (read place (byte ∷ bytes)); is = refl; more = []; done = (done, (refl, tt)); ends = refl }
+  pub begins_read : (kind : Deed → Type 0) (stopped : Bool) (place : ℕ) (bytes : List ℕ) (a b : N × V) → kind (called (read place bytes))
+      → Acts asks happens owed stopped (called (read place bytes) ∷ []) a b → Begins (ActsAt place asks happens owed) stopped kind a b
+  begins_read kind stopped place [] a b is done = record { first = called (read place []); is = is; more = []; done = (done, tt); ends = refl }
+  begins_read kind stopped place (byte ∷ bytes) a b is done =
+      record { first = called (read place (byte ∷ bytes)); is = is; more = []; done = (done, (refl, tt)); ends = refl }
 
   pub did_fail : (place : ℕ) (call : Called) → is_quiet call ≡ true → (n m : N) (v : V) → asks (call ∷ []) n m
       → Did (ActsAt place asks happens owed) false 0 (n, v) (m, v)
@@ -255,11 +255,11 @@ module _ {N V : Type 0} (asks : List Called → N → N → Type 0) (happens : B
   did_write stopped place [] a b done = record { deeds = called (wrote place []) ∷ []; done = (done, tt); ends = refl }
   did_write stopped place (byte ∷ bytes) a b done = record { deeds = called (wrote place (byte ∷ bytes)) ∷ []; done = (done, (refl, tt)); ends = refl }
 
-  pub begins_write : (stopped : Bool) (place : ℕ) (bytes : List ℕ) (a b : N × V) → Acts asks happens owed stopped (called (wrote place bytes) ∷ []) a b
-      → Begins (ActsAt place asks happens owed) stopped (IsWrite place) a b
-  begins_write stopped place [] a b done = record { first = called (wrote place []); is = refl; more = []; done = (done, tt); ends = refl }
-  begins_write stopped place (byte ∷ bytes) a b done =
-      record { first = called (wrote place (byte ∷ bytes)); is = refl; more = []; done = (done, (refl, tt)); ends = refl }
+  pub begins_write : (kind : Deed → Type 0) (stopped : Bool) (place : ℕ) (bytes : List ℕ) (a b : N × V) → kind (called (wrote place bytes))
+      → Acts asks happens owed stopped (called (wrote place bytes) ∷ []) a b → Begins (ActsAt place asks happens owed) stopped kind a b
+  begins_write kind stopped place [] a b is done = record { first = called (wrote place []); is = is; more = []; done = (done, tt); ends = refl }
+  begins_write kind stopped place (byte ∷ bytes) a b is done =
+      record { first = called (wrote place (byte ∷ bytes)); is = is; more = []; done = (done, (refl, tt)); ends = refl }
 
   -- what was done to the service alone
   comes_happens : ((v : V) → happens false [] v v) → (done : List (ℕ × Done)) (stopped : Bool) (a b : V) → Comes happens owed done stopped a b → happens stopped done a b

@@ -38,6 +38,12 @@ begins_then follows joined stopped kind a b c first more = record {
   ends = omega (arith, ends_among (first.first ∷ first.more) more.deeds, first.ends, more.ends);
 }
 
+-- the same deed, of which less is said
+pub begins_as : {S : Type 0} (acts : Bool → List Deed → S → S → Type 0) (stopped : Bool) (kind other : Deed → Type 0) (a b : S)
+    → ((deed : Deed) → kind deed → other deed) → Begins acts stopped kind a b → Begins acts stopped other a b
+begins_as acts stopped kind other a b as_other is =
+    record { first = is.first; is = as_other is.first is.is; more = is.more; done = is.done; ends = is.ends }
+
 -- ---- connections that have still to end
 
 leaves_all : (limit : Option ℕ) → Leaves limit 0 limit

@@ -3,9 +3,10 @@ pub mod Arriving
 pub mod Changing
 pub mod Doing
 pub mod Hearing
+pub mod Listening
+pub mod Noting
 pub mod Parting
 pub mod Rounding
-pub mod Seeing
 pub mod Serving
 pub mod Sparing
 pub mod Visiting

@@ -50,7 +50,7 @@ other_behind first end place other within front inside isnt =
     other_by first end place other (cases_lt other (end - first)) (λ ahead same. omega (arith, same, front)) (λ behind same. isnt (omega (arith, behind, same)))
 
 module _ {N V : Type 0} (asks : List Called → N → N → Type 0) (happens : Bool → List (ℕ × Done) → V → V → Type 0)
-    (files : V → List ℕ → Bool) (held owed : V → ℕ → List ℕ) (unchanged : (n : N) → asks [] n n)
+    (files : V → List ℕ → Bool) (held owed : V → ℕ → List ℕ) (wants : V → ℕ → ℕ → Type 0) (unchanged : (n : N) → asks [] n n)
     (joined : (first more : List Called) (a b c : N) → asks first a b → asks more b c → asks (first ++ more) a c) where
   -- things were done elsewhere, and this place is as it was
   record Passes (place : ℕ) (before after : EventLoop) (old new : N × V) : Type 0 where
@@ -105,7 +105,7 @@ module _ {N V : Type 0} (asks : List Called → N → N → Type 0) (happens : B
   }
 
   passes_if : (put_back : Bool) (place other : ℕ) (before after : EventLoop) (old new : N × V) → (other == place) ≡ false
-      → VisitsNextIf asks happens files held owed put_back false other before after old new → Passes place before after old new
+      → VisitsNextIf asks happens files held owed wants put_back false other before after old new → Passes place before after old new
   passes_if true place other before after old new differs is =
       subst (λ (later : EventLoop). Passes place before later old new) (sym is.2)
       (subst (λ (later : N × V). Passes place before (record before { places = with_cut before.places other }) old later) (sym is.1) (record {
@@ -122,12 +122,12 @@ module _ {N V : Type 0} (asks : List Called → N → N → Type 0) (happens : B
   }
 
   passes_next : (place other : ℕ) (before after : EventLoop) (old new : N × V) → (other == place) ≡ false
-      → VisitsNext asks happens files held owed false other before after old new → Passes place before after old new
+      → VisitsNext asks happens files held owed wants false other before after old new → Passes place before after old new
   passes_next place other before after old new differs is =
       passes_if (is_put_back before.places other before.now) place other before after old new differs is
 
   passes_each : (first end place count : ℕ) (before after : EventLoop) (old new : N × V) → ((step : ℕ) → step < count → (place_from first step end == place) ≡ false)
-      → VisitsEach asks happens files held owed first end count before after old new → Passes place before after old new
+      → VisitsEach asks happens files held owed wants first end count before after old new → Passes place before after old new
   passes_each first end place zero before after old new differs is = passes_none place before after old new is.0 is.1
   passes_each first end place (suc count) before after old new differs is =
       passes_then place before is.0 after old is.1 new
@@ -137,10 +137,10 @@ module _ {N V : Type 0} (asks : List Called → N → N → Type 0) (happens : B
   -- the place of the last step, or of one before it
   visits_last : (first end place step count : ℕ) (before between after : EventLoop) (old middle new : N × V) → step < suc count → place_from first step end ≡ place
       → ((other : ℕ) → other < suc count → (other ≡ step → ⊥) → (place_from first other end == place) ≡ false)
-      → VisitsEach asks happens files held owed first end count before between old middle
-      → VisitsNext asks happens files held owed false (place_from first count end) between after middle new
-      → (step < count → IsVisited asks happens files held owed place before old middle)
-      → (step ≡ count) ⊎ (step ≡ count → ⊥) → IsVisited asks happens files held owed place before old new
+      → VisitsEach asks happens files held owed wants first end count before between old middle
+      → VisitsNext asks happens files held owed wants false (place_from first count end) between after middle new
+      → (step < count → IsVisited asks happens files held owed wants place before old middle)
+      → (step ≡ count) ⊎ (step ≡ count → ⊥) → IsVisited asks happens files held owed wants place before old new
   visits_last first end place step count before between after old middle new below at differs each last earlier (inl is) =
       let passed = passes_each first end place count before between old middle (λ other inside. differs other (omega (arith, inside)) (λ same. omega (arith, inside, same, is))) each in
       record {
@@ -155,7 +155,7 @@ module _ {N V : Type 0} (asks : List Called → N → N → Type 0) (happens : B
         alone_before = passed.elsewhere;
         alone_behind = tt;
         same = passed.same;
-        visit = subst (λ (p : ℕ). VisitsNext asks happens files held owed false p between after middle new) (ap (λ (s : ℕ). place_from first s end) (sym is) ∙ at) last;
+        visit = subst (λ (p : ℕ). VisitsNext asks happens files held owed wants false p between after middle new) (ap (λ (s : ℕ). place_from first s end) (sym is) ∙ at) last;
       }
   visits_last first end place step count before between after old middle new below at differs each last earlier (inr isnt) =
       let one = earlier (omega (arith, below, isnt)) in
@@ -179,7 +179,7 @@ module _ {N V : Type 0} (asks : List Called → N → N → Type 0) (happens : B
   -- the place of one of the steps, which is that of no other
   visits_one : (first end place step count : ℕ) (before after : EventLoop) (old new : N × V) → step < count → place_from first step end ≡ place
       → ((other : ℕ) → other < count → (other ≡ step → ⊥) → (place_from first other end == place) ≡ false)
-      → VisitsEach asks happens files held owed first end count before after old new → IsVisited asks happens files held owed place before old new
+      → VisitsEach asks happens files held owed wants first end count before after old new → IsVisited asks happens files held owed wants place before old new
   visits_one first end place step zero before after old new below at differs is = absurd (omega (arith, below))
   visits_one first end place step (suc count) before after old new below at differs is =
       visits_last first end place step count before is.0 after old is.1 new below at differs is.2 is.3
@@ -187,9 +187,9 @@ module _ {N V : Type 0} (asks : List Called → N → N → Type 0) (happens : B
       (cases_eq step count)
 
   pub visits_all : (first end place : ℕ) (before after : EventLoop) (old new : N × V) → first ≤ end → place < end
-      → VisitsEach asks happens files held owed first end end before after old new → IsVisited asks happens files held owed place before old new
+      → VisitsEach asks happens files held owed wants first end end before after old new → IsVisited asks happens files held owed wants place before old new
   visits_all first end place before after old new within below is = by_part (cases_lt place first)
     where
-      by_part : (place < first) ⊎ (first ≤ place) → IsVisited asks happens files held owed place before old new
+      by_part : (place < first) ⊎ (first ≤ place) → IsVisited asks happens files held owed wants place before old new
       by_part (inl front) = visits_one first end place (place + (end - first)) end before after old new (omega (arith, front, within)) (place_behind first end place within front) (λ other inside isnt. other_behind first end place other within front inside isnt) is
       by_part (inr back) = visits_one first end place (place - first) end before after old new (omega (arith, back, below)) (place_ahead first end place below back) (λ other inside isnt. other_ahead first end place other below back inside isnt) is

@@ -23,6 +23,11 @@ pub on_ok : {T E : Type 0} (result : Result T E) {P : Type 0} → is_err result 
 on_ok (Ok x) isnt holds = holds
 on_ok (Err e) isnt holds = absurd (true≢false isnt)
 
+-- what holds of any
+pub on_any : {T E : Type 0} (result : Result T E) {P : Type 0} → P → OnOk result P
+on_any (Ok x) holds = holds
+on_any (Err e) holds = tt
+
 -- what holds, where it is an error
 pub on_err : {T E : Type 0} (result : Result T E) {P : Type 0} → is_err result ≡ true → P → OnErr result P
 on_err (Ok x) is holds = tt

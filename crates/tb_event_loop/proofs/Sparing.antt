@@ -1,13 +1,13 @@
 -- What a change at one place leaves of the others.
-use Rattle.std.proofs.Common.{◌≡◌, ℕ, zero, suc, Bool, true, false, List, [], ◌∷◌, Option, Some, None, unwrap_or, Result, Ok, Err, refl, sym, ap, ◌∙◌}
-use Rattle.std.specs.Prelude.{◌==◌, OnErr, OnOk, slice_get, slice_set}
+use Rattle.std.proofs.Common.{◌≡◌, ℕ, inl, inr, zero, suc, Bool, true, false, List, [], ◌∷◌, Option, Some, None, unwrap_or, refl, sym, ap, ◌∙◌}
+use Rattle.std.specs.Prelude.{◌⊎◌, ◌==◌, slice_get, slice_set}
 use Rattle.std.proofs.lemmas.Bool.{eqb-false, false≢true, ne_eqb}
-use Rattle.tb_event_loop.specs.Places.{Changes, Ends, EndsAs, Enters, GoesOn, LacksAll, SeatsAgain, SetsHold, SetsStage, Settles, SettlesIf, SettlesTo, Spares, Stays, Vacates, connection_in, hold_in, is_waiting, stage_in}
+use Rattle.tb_event_loop.specs.Answering.{EndsMessage}
+use Rattle.tb_event_loop.specs.Places.{Changes, Ends, EndsAs, Enters, GoesOn, LacksAll, SeatsAgain, SetsHold, SetsStage, Settles, SettlesIf, SettlesTo, Spares, Stays, Vacates, connection_in, hold_in, is_over_at, is_waiting, stage_in}
 use Rattle.tb_event_loop.specs.declared.connection.Connection.{Connection}
 use Rattle.tb_event_loop.specs.declared.places.Places.{Places}
 use Rattle.tb_rooms.specs.Holding.{vacant_hold}
 use Rattle.tb_rooms.specs.declared.holding.Hold.{Hold}
-use Rattle.tb_rooms.specs.declared.rates.Rates.{Rates}
 use Rattle.tb_timeouts.specs.declared.stage.Stage.{Stage}
 use Rattle.tb_timeouts.specs.declared.stage.Stage.TheVariants.{Vacant, Idle, Heading, Reading, Waiting, Answering, Closing}
 
@@ -29,6 +29,7 @@ spares_same place old new same = record {
   stages = λ c other. ap (λ (p : Places). stage_in p c) same;
   holds = λ c other. ap (λ (p : Places). hold_in p c) same;
   first = ap (λ (p : Places). p.first) same;
+  cut = ap (λ (p : Places). p.cut) same;
   round = ap (λ (p : Places). p.round) same;
   rooms = ap (λ (p : Places). p.rooms) same;
   limits = ap (λ (p : Places). p.limits) same;
@@ -40,6 +41,7 @@ spares_then place old between new one more = record {
   stages = λ c other. more.stages c other ∙ one.stages c other;
   holds = λ c other. more.holds c other ∙ one.holds c other;
   first = more.first ∙ one.first;
+  cut = more.cut ∙ one.cut;
   round = more.round ∙ one.round;
   rooms = more.rooms ∙ one.rooms;
   limits = more.limits ∙ one.limits;
@@ -53,6 +55,7 @@ spares_looked place old new slot are rest = record {
   stages = λ c other. ap (λ (p : Places). stage_in p c) rest;
   holds = λ c other. ap (λ (p : Places). hold_in p c) rest;
   first = ap (λ (p : Places). p.first) rest;
+  cut = ap (λ (p : Places). p.cut) rest;
   round = ap (λ (p : Places). p.round) rest;
   rooms = ap (λ (p : Places). p.rooms) rest;
   limits = ap (λ (p : Places). p.limits) rest;
@@ -65,6 +68,7 @@ spares_connection place old new slot are rest = record {
   stages = λ c other. ap (λ (p : Places). stage_in p c) rest;
   holds = λ c other. ap (λ (p : Places). hold_in p c) rest;
   first = ap (λ (p : Places). p.first) rest;
+  cut = ap (λ (p : Places). p.cut) rest;
   round = ap (λ (p : Places). p.round) rest;
   rooms = ap (λ (p : Places). p.rooms) rest;
   limits = ap (λ (p : Places). p.limits) rest;
@@ -73,28 +77,13 @@ spares_connection place old new slot are rest = record {
 pub spares_changed : (change : Connection → Connection) (place : ℕ) (old new : Places) → Changes change old new place → Spares place old new
 spares_changed change place old new is = spares_connection place old new _ is.0 is.1
 
-pub spares_rates : (place : ℕ) (old new : Places) (rates : Rates) → new ≡ record old { rates = rates } → Spares place old new
-spares_rates place old new rates rest = record {
-  connections = λ c other. ap (λ (p : Places). connection_in p c) rest;
-  stages = λ c other. ap (λ (p : Places). stage_in p c) rest;
-  holds = λ c other. ap (λ (p : Places). hold_in p c) rest;
-  first = ap (λ (p : Places). p.first) rest;
-  round = ap (λ (p : Places). p.round) rest;
-  rooms = ap (λ (p : Places). p.rooms) rest;
-  limits = ap (λ (p : Places). p.limits) rest;
-}
-
-pub spares_heeded : {T E : Type 0} (result : Result T E) (place : ℕ) (old new : Places) (rates : Rates) → OnOk result (new ≡ record old { rates = rates }) → OnErr result (new ≡ old)
-    → Spares place old new
-spares_heeded (Ok x) place old new rates done failed = spares_rates place old new rates done
-spares_heeded (Err e) place old new rates done failed = spares_same place old new failed
-
 pub spares_stage : (place : ℕ) (old new : Places) (stage : Stage) → SetsStage old new place stage → Spares place old new
 spares_stage place old new stage is = record {
   connections = λ c other. ap (λ (p : Places). connection_in p c) is.1;
   stages = λ c other. read_other old.stages.items new.stages.items place c stage Vacant is.0 other;
   holds = λ c other. ap (λ (p : Places). hold_in p c) is.1;
   first = ap (λ (p : Places). p.first) is.1;
+  cut = ap (λ (p : Places). p.cut) is.1;
   round = ap (λ (p : Places). p.round) is.1;
   rooms = ap (λ (p : Places). p.rooms) is.1;
   limits = ap (λ (p : Places). p.limits) is.1;
@@ -107,6 +96,7 @@ spares_noted place old new hold are rest = record {
   stages = λ c other. ap (λ (p : Places). stage_in p c) rest;
   holds = λ c other. read_other old.holds.items new.holds.items place c hold vacant_hold are other;
   first = ap (λ (p : Places). p.first) rest;
+  cut = ap (λ (p : Places). p.cut) rest;
   round = ap (λ (p : Places). p.round) rest;
   rooms = ap (λ (p : Places). p.rooms) rest;
   limits = ap (λ (p : Places). p.limits) rest;
@@ -123,6 +113,7 @@ spares_vacated place old new is = record {
   stages = λ c other. read_other old.stages.items new.stages.items place c Vacant Vacant is.1 other;
   holds = λ c other. read_other old.holds.items new.holds.items place c vacant_hold vacant_hold is.2 other;
   first = ap (λ (p : Places). p.first) is.3;
+  cut = ap (λ (p : Places). p.cut) is.3;
   round = ap (λ (p : Places). p.round) is.3;
   rooms = ap (λ (p : Places). p.rooms) is.3;
   limits = ap (λ (p : Places). p.limits) is.3;
@@ -139,12 +130,29 @@ spares_stays place old new is = record {
   stages = λ c other. ap (λ (p : Places). stage_in p c) is.1;
   holds = λ c other. ap (λ (p : Places). hold_in p c) is.1;
   first = ap (λ (p : Places). p.first) is.1;
+  cut = ap (λ (p : Places). p.cut) is.1;
   round = ap (λ (p : Places). p.round) is.1;
   rooms = ap (λ (p : Places). p.rooms) is.1;
   limits = ap (λ (p : Places). p.limits) is.1;
 }
 
 -- ---- how a turn ends
+
+pub spares_message : (files : List ℕ → Bool) (head answer : List ℕ) (own swept now : ℕ) (kept : Bool) (old new : Places) (place : ℕ)
+    → EndsMessage files head answer own swept now kept old new place → Spares place old new
+spares_message files head [] own swept now kept old new place is = spares_connection place old new _ is.0 is.1
+spares_message files head (byte ∷ answer) own swept now kept old new place is =
+    let rest = is.2.2 in
+    record {
+      connections = λ c other. read_other old.connections.items new.connections.items place c _ None is.2.0 other;
+      stages = λ c other. ap (λ (p : Places). stage_in p c) rest;
+      holds = λ c other. read_other old.holds.items new.holds.items place c _ vacant_hold is.2.1 other;
+      first = ap (λ (p : Places). p.first) rest;
+      cut = ap (λ (p : Places). p.cut) rest;
+      round = ap (λ (p : Places). p.round) rest;
+      rooms = ap (λ (p : Places). p.rooms) rest;
+      limits = ap (λ (p : Places). p.limits) rest;
+    }
 
 pub spares_entered : (place now : ℕ) (old new : Places) (owed held : List ℕ) (closes : Bool) → Enters old new place now owed closes held → Spares place old new
 spares_entered place now old new owed held closes is = spares_stage place old new _ is.2
@@ -180,3 +188,8 @@ spares_ended_as (Closing since reads) place now old new is = spares_connection p
 
 pub spares_ended : (place now : ℕ) (old new : Places) → Ends old new place now → Spares place old new
 spares_ended place now old new is = spares_ended_as (stage_in old place) place now old new is
+
+pub begun_spares : (place : ℕ) (old placed : Places) (now : ℕ) → (is_over_at old place now ≡ true → Ends old placed place now) → (is_over_at old place now ≡ false → placed ≡ old)
+    → (is_over_at old place now ≡ true) ⊎ (is_over_at old place now ≡ false) → Spares place old placed
+begun_spares place old placed now ends same (inl is) = spares_ended place now old placed (ends is)
+begun_spares place old placed now ends same (inr isnt) = spares_same place old placed (same isnt)

@@ -8,6 +8,7 @@ use Rattle.tb_event_loop.specs.Done.{Done, ends_in}
 use Rattle.tb_event_loop.specs.Guesses.{debt_of, is_due, is_due_again, looked_at}
 use Rattle.tb_event_loop.specs.Head.{begun}
 use Rattle.tb_event_loop.specs.History.{Goes, GoesBy, Leaves}
+use Rattle.tb_event_loop.specs.Noting.{IsNoted}
 use Rattle.tb_event_loop.specs.Places.{Ends, HasTurn, IsAnswered, IsHeard, IsWritten, Spares, awaits, can_act, can_write_at, connection_in, has_room_at, has_turn_as, is_answering, is_leaving, is_over_at, is_read, is_turned_at, is_turned_in, may_answer_at, may_turn_of, stage_in}
 use Rattle.tb_event_loop.specs.Rounds.{IsTurnOf, IsTurnOrEnd, Visits, VisitsNext, VisitsNextIf}
 use Rattle.tb_event_loop.specs.Sharing.{is_put_back, with_cut}
@@ -24,7 +25,7 @@ use Rattle.tb_timeouts.specs.declared.stage.Stage.{Stage}
 use Rattle.tb_timeouts.specs.declared.stage.Stage.TheVariants.{Vacant, Idle, Heading, Reading, Waiting, Answering, Closing}
 use Rattle.tb_event_loop.proofs.Acting.{acts_at_then, at_quiet, did_nothing}
 use Rattle.tb_event_loop.proofs.Doing.{ends_among, leaves_none}
-use Rattle.tb_event_loop.proofs.Sparing.{spares_ended, spares_same, spares_then}
+use Rattle.tb_event_loop.proofs.Sparing.{begun_spares, spares_same, spares_then}
 
 pub has_append : (kind : Deed → Type 0) (xs ys : List Deed) → Has kind xs → Has kind (xs ++ ys)
 has_append kind [] ys is = absurd is
@@ -214,6 +215,7 @@ not_is false is = refl
 due_may_turn : (files : List ℕ → Bool) (rates : Rates) (rooms : Rooms) (holds : List Hold) (held : List ℕ) (now : ℕ) (connection : Connection) (asked : Bool) → connection.has_asked ≡ asked
     → is_turned_at files rates rooms holds held now (Some connection) ≡ true
     → (not connection.has_asked || (nat_le connection.due now && may_turn rooms connection.owner holds)) ≡ true
+unfolding is_due looked_at
 due_may_turn files rates rooms holds held now connection false is turned =
     or_left (not connection.has_asked) (nat_le connection.due now && may_turn rooms connection.owner holds) (not_is connection.has_asked is)
 due_may_turn files rates rooms holds held now connection true is turned =
@@ -283,17 +285,17 @@ leaving_has places place now None leaves = absurd (false≢true leaves)
 leaving_has places place now (Some connection) leaves = or_left connection.is_gone (can_act places place now connection (stage_in places place)) leaves
 
 module _ {N V : Type 0} (asks : List Called → N → N → Type 0) (happens : Bool → List (ℕ × Done) → V → V → Type 0)
-    (files : V → List ℕ → Bool) (held owed : V → ℕ → List ℕ) where
+    (files : V → List ℕ → Bool) (held owed : V → ℕ → List ℕ) (wants : V → ℕ → ℕ → Type 0) where
   pub unvisited : ((n : N) → asks [] n n) → (place : ℕ) (before : EventLoop) (placed : Places) (n m : N) (v : V)
       → (IsTrue (is_over_at before.places place before.now) ⊎ HasTurn before.places place before.now → ⊥)
       → (is_over_at before.places place before.now ≡ false → placed ≡ before.places) → (is_over_at before.places place before.now ≡ false → m ≡ n)
-      → Visits asks happens files held owed false place before (record before { places = placed }) (n, v) (m, v)
+      → Visits asks happens files held owed wants false place before (record before { places = placed }) (n, v) (m, v)
   unvisited unchanged place before placed n m v none same silent =
       let over : is_over_at before.places place before.now ≡ false = not_over (cases_Bool (is_over_at before.places place before.now)) in
       let stays : record before { places = placed } ≡ before = ap (λ (p : Places). record before { places = p }) (same over) in
       let still : (m, v) ≡ (n, v) = ap (λ (k : N). (k, v)) (silent over) in
-      subst (λ (later : N × V). Visits asks happens files held owed false place before (record before { places = placed }) (n, v) later) (sym still)
-      (subst (λ (later : EventLoop). Visits asks happens files held owed false place before later (n, v) (n, v)) (sym stays) (record {
+      subst (λ (later : N × V). Visits asks happens files held owed wants false place before (record before { places = placed }) (n, v) later) (sym still)
+      (subst (λ (later : EventLoop). Visits asks happens files held owed wants false place before later (n, v) (n, v)) (sym stays) (record {
         deeds = [];
         done = ((unchanged n, refl), tt);
         left = leaves_none before.still_to_end before.still_to_end refl;
@@ -302,6 +304,7 @@ module _ {N V : Type 0} (asks : List Called → N → N → Type 0) (happens : B
           λ leaves limited. absurd (none (inr (leaving_has before.places place before.now (connection_in before.places place) leaves))),
         );
         passed = λ isnt nothing. (refl, refl);
+        noted = λ goes has. absurd (none has);
         freed = λ goes. not_leaving (cases_Bool (is_leaving (connection_in before.places place)));
         others = spares_same place before.places before.places refl;
         moment = refl;
@@ -315,11 +318,6 @@ module _ {N V : Type 0} (asks : List Called → N → N → Type 0) (happens : B
       not_leaving (inl leaves) = absurd (none (inr (leaving_has before.places place before.now (connection_in before.places place) leaves)))
       not_leaving (inr stays) = stays
 
-  begun_spares : (place : ℕ) (old placed : Places) (now : ℕ) → (is_over_at old place now ≡ true → Ends old placed place now) → (is_over_at old place now ≡ false → placed ≡ old)
-      → (is_over_at old place now ≡ true) ⊎ (is_over_at old place now ≡ false) → Spares place old placed
-  begun_spares place old placed now ends same (inl is) = spares_ended place now old placed (ends is)
-  begun_spares place old placed now ends same (inr isnt) = spares_same place old placed (same isnt)
-
   no_way : {A B : Type 0} (P : Type 0) → A ⊎ B → (A → ⊥) → (B → ⊥) → P
   no_way P (inl is) one other = absurd (one is)
   no_way P (inr is) one other = absurd (other is)
@@ -332,9 +330,10 @@ module _ {N V : Type 0} (asks : List Called → N → N → Type 0) (happens : B
       → Quietly asks n m
       → GoesBy (ActsAt place asks happens owed) stopped (IsTurnOrEnd (files v) placed place before.now (held v place) (owed v place) before.still_to_end) before.still_to_end still (m, v) end
       → after.still_to_end ≡ still → Spares place placed turned → Spares place turned after.places → after.now ≡ before.now
+      → (stopped ≡ false → IsNoted wants owed place before after end.1)
       → (stopped ≡ false → is_leaving (connection_in after.places place) ≡ false)
-      → Visits asks happens files held owed stopped place before after (n, v) end
-  visited joined stopped place before after placed turned n m v end still has ends same quiet turn left spares more moment freed =
+      → Visits asks happens files held owed wants stopped place before after (n, v) end
+  visited joined stopped place before after placed turned n m v end still has ends same quiet turn left spares more moment noted freed =
       let first = at_quiet asks happens owed place n m v quiet in
       let size : ends_in (done_in turn.deeds) ≡ ends_in (done_in (first.deeds ++ turn.deeds)) = omega (arith, ends_among first.deeds turn.deeds, first.ends) in
       record {
@@ -348,6 +347,7 @@ module _ {N V : Type 0} (asks : List Called → N → N → Type 0) (happens : B
               λ leaves limited. has_behind (IsClose place) first.deeds turn.deeds (says.1 leaves limited),
             );
         passed = λ isnt nothing. no_way ((after ≡ before) × (end ≡ (n, v))) has (λ over. both_ways (is_over_at before.places place before.now) isnt over) nothing;
+        noted = λ goes had. noted goes;
         freed = freed;
         others = spares_then place before.places placed after.places
             (begun_spares place before.places placed before.now ends same (cases_Bool (is_over_at before.places place before.now)))
@@ -359,27 +359,27 @@ module _ {N V : Type 0} (asks : List Called → N → N → Type 0) (happens : B
 
   pub next_put_back : (stopped : Bool) (place : ℕ) (before after : EventLoop) (old new : N × V) → is_put_back before.places place before.now ≡ true
       → stopped ≡ false → new ≡ old → after ≡ record before { places = with_cut before.places place }
-      → VisitsNext asks happens files held owed stopped place before after old new
+      → VisitsNext asks happens files held owed wants stopped place before after old new
   next_put_back stopped place before after old new is goes same cut =
-      subst (λ (b : Bool). VisitsNextIf asks happens files held owed b stopped place before after old new) (sym is) (goes, same, cut)
+      subst (λ (b : Bool). VisitsNextIf asks happens files held owed wants b stopped place before after old new) (sym is) (goes, same, cut)
 
   pub next_visited : (stopped : Bool) (place : ℕ) (before after : EventLoop) (old new : N × V) → is_put_back before.places place before.now ≡ false
-      → Visits asks happens files held owed stopped place before after old new
-      → VisitsNext asks happens files held owed stopped place before after old new
+      → Visits asks happens files held owed wants stopped place before after old new
+      → VisitsNext asks happens files held owed wants stopped place before after old new
   next_visited stopped place before after old new isnt visits =
-      subst (λ (b : Bool). VisitsNextIf asks happens files held owed b stopped place before after old new) (sym isnt) visits
+      subst (λ (b : Bool). VisitsNextIf asks happens files held owed wants b stopped place before after old new) (sym isnt) visits
 
   first_if : (put_back stopped : Bool) (place : ℕ) (before after : EventLoop) (old new : N × V)
-      → VisitsNextIf asks happens files held owed put_back stopped place before after old new → after.places.first ≡ before.places.first
+      → VisitsNextIf asks happens files held owed wants put_back stopped place before after old new → after.places.first ≡ before.places.first
   first_if true stopped place before after old new is = ap (λ (l : EventLoop). l.places.first) is.2
   first_if false stopped place before after old new is = is.others.first
 
   pub next_first : (stopped : Bool) (place : ℕ) (before after : EventLoop) (old new : N × V)
-      → VisitsNext asks happens files held owed stopped place before after old new → after.places.first ≡ before.places.first
+      → VisitsNext asks happens files held owed wants stopped place before after old new → after.places.first ≡ before.places.first
   next_first stopped place before after old new is = first_if (is_put_back before.places place before.now) stopped place before after old new is
 
   goes_if : ((n : N) → asks [] n n) → (put_back stopped : Bool) (place : ℕ) (before after : EventLoop) (old new : N × V)
-      → VisitsNextIf asks happens files held owed put_back stopped place before after old new
+      → VisitsNextIf asks happens files held owed wants put_back stopped place before after old new
       → Goes (Acts asks happens owed) stopped before.still_to_end after.still_to_end old new
   goes_if unchanged true stopped place before after old new is =
       subst (λ (b : Bool). Goes (Acts asks happens owed) b before.still_to_end after.still_to_end old new) (sym is.0)
@@ -389,7 +389,7 @@ module _ {N V : Type 0} (asks : List Called → N → N → Type 0) (happens : B
       (ends_in (done_in is.deeds), record { deeds = is.deeds; done = is.done.0; ends = refl }, is.left)
 
   pub next_goes : ((n : N) → asks [] n n) → (stopped : Bool) (place : ℕ) (before after : EventLoop) (old new : N × V)
-      → VisitsNext asks happens files held owed stopped place before after old new
+      → VisitsNext asks happens files held owed wants stopped place before after old new
       → Goes (Acts asks happens owed) stopped before.still_to_end after.still_to_end old new
   next_goes unchanged stopped place before after old new is =
       goes_if unchanged (is_put_back before.places place before.now) stopped place before after old new is

@@ -97,7 +97,7 @@ put_off_at rates text now connection =
     then record connection { due = min (now + debt_of rates text now) (2 ^ 64 - 1) }
     else connection
 
-abbrev pub looked_at : (List ℕ → Bool) → Rates → List ℕ → ℕ → Connection → Connection
+unfoldable pub looked_at : (List ℕ → Bool) → Rates → List ℕ → ℕ → Connection → Connection
 looked_at files rates held now connection =
     if connection.has_asked then put_off_at rates (begun held) now connection
     else if has_whole_head (begun held)
@@ -105,7 +105,7 @@ looked_at files rates held now connection =
     else connection
 
 -- one whose head isn't whole may be read on
-abbrev pub is_due : (List ℕ → Bool) → Rates → List ℕ → ℕ → Connection → Bool
+unfoldable pub is_due : (List ℕ → Bool) → Rates → List ℕ → ℕ → Connection → Bool
 is_due files rates held now connection =
     if connection.has_asked then is_due_again rates (begun held) now connection
     else not (has_whole_head (begun held)) || nat_le (due_of files rates (begun held) now) now
@@ -113,7 +113,7 @@ is_due files rates held now connection =
 abbrev pub is_new : List ℕ → Connection → Bool
 is_new held connection = not connection.has_asked && has_whole_head (begun held)
 
-abbrev pub counted_by : (List ℕ → Bool) → Connection → List ℕ → ℕ → Rates → Rates
+unfoldable pub counted_by : (List ℕ → Bool) → Connection → List ℕ → ℕ → Rates → Rates
 counted_by files connection held now rates =
     if is_new held connection then counted files (begun held) now rates else rates
 

@@ -1,5 +1,5 @@
 -- What the log tells of a message and its answer.
-use Rattle.std.specs.Prelude.{◌≡◌, ℕ, List, [], codes, drop, if◌then◌else◌, length, nat_le, take, unwrap_or}
+use Rattle.std.specs.Prelude.{◌≡◌, ◌⊎◌, ℕ, ◌+◌, ◌-◌, ◌^◌, List, [], codes, drop, if◌then◌else◌, length, min, nat_le, take, unwrap_or}
 use Rattle.std.specs.Option.{option_copied}
 use Rattle.tb_event_loop.specs.Logging.{failure_text, log_text}
 use Rattle.tb_event_loop.specs.RequestLine.{member_in, method_in, target_in}
@@ -10,9 +10,10 @@ use Rattle.tb_event_loop.specs.declared.logging.LogEntry.{LogEntry}
 abbrev pub status_in : List ℕ → List ℕ
 status_in answer = if nat_le 12 (length answer) then take 3 (drop 9 answer) else codes "-"
 
--- a line is told, of what the head of a message says and of its answer
-pub record IsTold (head answer : List ℕ) (millis : ℕ) (tells : List ℕ → Type 0) : Type 0 where
+-- a line is told, of what the head of a message says and of its answer, and of how many lines are missing before it
+pub record IsTold (head answer : List ℕ) (millis missed : ℕ) (tells : List ℕ → Type 0) : Type 0 where
   pub entry : LogEntry
+  pub missing : entry.missed ≡ missed
   pub member : option_copied entry.member ≡ member_in head
   pub method : entry.method.now ≡ method_in head
   pub target : entry.target.now ≡ target_in head
@@ -20,6 +21,11 @@ pub record IsTold (head answer : List ℕ) (millis : ℕ) (tells : List ℕ → 
   pub bytes : entry.bytes ≡ length answer
   pub duration : entry.millis ≡ millis
   pub told : tells (log_text entry)
+
+-- A line is told whole, or it counts as missing.
+abbrev pub IsLogged : List ℕ → List ℕ → ℕ → ℕ → ℕ → (List ℕ → Type 0) → Type 0
+IsLogged head answer millis missed later tells =
+    (IsTold head answer millis missed tells × (later ≡ 0)) ⊎ (later ≡ min (missed + 1) (2 ^ 64 - 1))
 
 -- a line is told, of what the head of a message says on which the store failed
 pub record IsToldFailed (head : List ℕ) (tells : List ℕ → Type 0) : Type 0 where

@@ -15,7 +15,7 @@ use Rattle.tb_event_loop.specs.declared.sockets.Told.{Told}
 
 module _ {N V P : Type 0} (asks : List Called → N → N → Type 0) (last_told : N → List Told)
     (looks : List Bool → P → P → Type 0) (happens : Bool → List (ℕ × Done) → V → V → Type 0)
-    (files : V → List ℕ → Bool) (held owed : V → ℕ → List ℕ) where
+    (files : V → List ℕ → Bool) (held owed : V → ℕ → List ℕ) (wants : V → ℕ → ℕ → Type 0) where
   -- It waits no longer than it may, knows what it was told, and accepts who is there.
   pub record IsReady (before ready : EventLoop) (old taken : N) : Type 0 where
     pub millis : ℕ
@@ -35,7 +35,7 @@ module _ {N V P : Type 0} (asks : List Called → N → N → Type 0) (last_told
     pub taken : N
     pub readies : IsReady before ready old.0 taken
     pub there : FindsThere looks before.now ready.now old.2 new.2
-    pub round : IsRound asks happens files held owed ready after (taken, old.1) (new.0, new.1)
+    pub round : IsRound asks happens files held owed wants ready after (taken, old.1) (new.0, new.1)
 
   abbrev pub AreLaps : ℕ → EventLoop → EventLoop → N × V × P → N × V × P → Type 0
   AreLaps zero before after old new = (after ≡ before) × (new ≡ old)
@@ -51,7 +51,7 @@ module _ {N V P : Type 0} (asks : List Called → N → N → Type 0) (last_told
     pub there : FindsThere looks before.now ready.now old.2 new.2
     pub after : EventLoop
     pub cut : N
-    pub round : IsCutRound asks happens files held owed ready after (taken, old.1) (cut, new.1)
+    pub round : IsCutRound asks happens files held owed wants ready after (taken, old.1) (cut, new.1)
     pub farewell : SendsAll asks (owed new.1) after.places cut new.0
 
   -- What comes after so many rounds. No machine lasts for as many as can be counted.

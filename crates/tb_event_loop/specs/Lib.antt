@@ -1,3 +1,4 @@
+pub mod Answering
 pub mod Arrivals
 pub mod Connection
 pub mod Deeds
@@ -7,11 +8,13 @@ pub mod EventLoop
 pub mod Farewell
 pub mod Guesses
 pub mod Head
+pub mod Heard
 pub mod Hearing
 pub mod History
 pub mod Journal
 pub mod Laps
 pub mod Logging
+pub mod Noting
 pub mod Places
 pub mod RequestLine
 pub mod Rounds

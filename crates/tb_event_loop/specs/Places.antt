@@ -293,6 +293,7 @@ pub record Spares (place : ℕ) (old new : Places) : Type 0 where
   pub stages : (c : ℕ) → (place == c) ≡ false → stage_in new c ≡ stage_in old c
   pub holds : (c : ℕ) → (place == c) ≡ false → hold_in new c ≡ hold_in old c
   pub first : new.first ≡ old.first
+  pub cut : new.cut ≡ old.cut
   pub round : new.round ≡ old.round
   pub rooms : new.rooms ≡ old.rooms
   pub limits : new.limits ≡ old.limits

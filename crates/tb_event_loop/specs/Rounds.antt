@@ -1,8 +1,9 @@
 -- A round of the loop: each place that is taken is visited once, and has its turn then.
-use Rattle.std.specs.Prelude.{◌≡◌, ◌≢◌, ◌<◌, ℕ, zero, suc, Bool, true, false, List, Option, Some, min}
+use Rattle.std.specs.Prelude.{◌≡◌, ◌≢◌, ◌⊎◌, ◌<◌, ℕ, zero, suc, Bool, true, false, IsTrue, List, Option, Some, min}
 use Rattle.tb_event_loop.specs.Deeds.{Acts, ActsAt, AreElsewhere, Deed, Has, IsClose, IsRead, IsTurn, IsWrite, done_in}
 use Rattle.tb_event_loop.specs.Done.{Done, ends_in}
 use Rattle.tb_event_loop.specs.History.{Leaves}
+use Rattle.tb_event_loop.specs.Noting.{IsNoted}
 use Rattle.tb_event_loop.specs.Places.{HasTurn, IsAnswered, IsHeard, IsWritten, Spares, connection_in, hold_in, is_leaving, is_over_at, stage_in}
 use Rattle.tb_event_loop.specs.Sharing.{Shares, is_put_back, place_from, with_cut, with_first, with_round}
 use Rattle.tb_event_loop.specs.Sockets.{Called}
@@ -45,7 +46,7 @@ pub record IsAsBefore (place : ℕ) (before after : EventLoop) : Type 0 where
 
 module _ {N V : Type 0} (asks : List Called → N → N → Type 0)
     (happens : Bool → List (ℕ × Done) → V → V → Type 0)
-    (files : V → List ℕ → Bool) (held owed : V → ℕ → List ℕ) where
+    (files : V → List ℕ → Bool) (held owed : V → ℕ → List ℕ) (wants : V → ℕ → ℕ → Type 0) where
   -- Deeds were done to the connection of a place, and to no other; it had its turn, unless it has stayed too long.
   pub record Visits (stopped : Bool) (place : ℕ) (before after : EventLoop) (old new : N × V) : Type 0 where
     pub deeds : List Deed
@@ -57,6 +58,10 @@ module _ {N V : Type 0} (asks : List Called → N → N → Type 0)
     -- where it has none, nothing is another
     pub passed : is_over_at before.places place before.now ≡ false
         → ¬ HasTurn before.places place before.now → (after ≡ before) × (new ≡ old)
+    -- what it holds after its turn is noted
+    pub noted : stopped ≡ false
+        → IsTrue (is_over_at before.places place before.now) ⊎ HasTurn before.places place before.now
+        → IsNoted wants owed place before after new.1
     -- one that leaves doesn't keep its place
     pub freed : stopped ≡ false → is_leaving (connection_in after.places place) ≡ false
     pub others : Spares place before.places after.places

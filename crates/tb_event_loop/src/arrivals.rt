@@ -10,9 +10,9 @@ ghost use Rattle.std.specs.IoError.{error_kind};
 use crate::journal::Journal;
 use crate::places::Places;
 use crate::sockets::{Sockets, Told};
+use crate::ticks::Ticks;
 use std::io;
 use std::io::{ErrorKind, Write};
-use std::time::Clock;
 use tb_timeouts::CONNECTIONS;
 
 /// How long there is no further try to accept a connection after one that failed, in milliseconds.
@@ -75,7 +75,7 @@ impl Arrivals {
     }
 
     /// Puts those that come into places.
-    pub(crate) fn seat_all<N: Sockets, C: Clock, W: Write>(
+    pub(crate) fn seat_all<N: Sockets, C: Ticks, W: Write>(
         &mut self,
         sockets: &mut N,
         places: &mut Places,
@@ -95,7 +95,7 @@ impl Arrivals {
     }
 
     // Puts the one that waits into a place, and those that come then.
-    fn seat_those<N: Sockets, C: Clock, W: Write>(
+    fn seat_those<N: Sockets, C: Ticks, W: Write>(
         &mut self,
         sockets: &mut N,
         places: &mut Places,
@@ -135,7 +135,7 @@ impl Arrivals {
     }
 
     // Accepts one, unless one waits already or none can be accepted now. Says whether one waits.
-    fn accept_next<N: Sockets, C: Clock, W: Write>(
+    fn accept_next<N: Sockets, C: Ticks, W: Write>(
         &mut self,
         sockets: &mut N,
         journal: &mut Journal<C, W>,
@@ -154,7 +154,7 @@ impl Arrivals {
         self.is_waiting
     }
 
-    fn accept_one<N: Sockets, C: Clock, W: Write>(
+    fn accept_one<N: Sockets, C: Ticks, W: Write>(
         &mut self,
         sockets: &mut N,
         journal: &mut Journal<C, W>,
@@ -181,7 +181,7 @@ impl Arrivals {
         }
     }
 
-    fn accept_failed<C: Clock, W: Write>(
+    fn accept_failed<C: Ticks, W: Write>(
         &mut self,
         error: &io::Error,
         journal: &mut Journal<C, W>,

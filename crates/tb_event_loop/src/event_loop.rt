@@ -1,5 +1,5 @@
 //! The loop over the listener and the connections.
-ghost use Rattle.std.specs.Prelude.{◌≡◌, ◌≢◌, ◌<◌, ◌⊎◌, ◌||◌, ℕ, if◌then◌else◌, IfErr, IfOk, IsErr, [], ◌∷◌, None, OnErr, OnOk, Some, false, is_err, take, true};
+ghost use Rattle.std.specs.Prelude.{◌≡◌, ◌≢◌, ◌<◌, ◌⊎◌, ◌||◌, ◌-◌, ℕ, if◌then◌else◌, IfErr, IfOk, IsErr, [], ◌∷◌, None, OnErr, OnOk, Some, false, is_err, max, take, true};
 ghost use Rattle.tb_event_loop.specs.Arrivals.{StaysReady, TriesToAccept, are_held_up, may_accept, tells_listener, told_of};
 ghost use Rattle.tb_event_loop.specs.Deeds.{Acts, ActsAt, Has, IsClose, done_in};
 ghost use Rattle.tb_event_loop.specs.Done.{ends_in};
@@ -8,9 +8,11 @@ ghost use Rattle.tb_event_loop.specs.EventLoop.{IsBusy, IsNew, IsWaitOf};
 ghost use Rattle.tb_event_loop.specs.Hearing.{Hears};
 ghost use Rattle.tb_event_loop.specs.History.{EndsAll, Goes, GoesBy, Leaves, still_to_end};
 ghost use Rattle.tb_event_loop.specs.Laps.{IsMadeOfLaps};
-ghost use Rattle.tb_event_loop.specs.Places.{IsUntilDue, Spares, connection_in, is_leaving};
+ghost use Rattle.tb_event_loop.specs.Noting.{HoldsOn};
+ghost use Rattle.tb_event_loop.specs.Places.{IsUntilDue, SetsHold, Spares, Vacates, connection_in, hold_in, is_leaving};
 ghost use Rattle.tb_event_loop.specs.Rounds.{IsCutRound, IsRound, IsTurnOrEnd, IsVisited, Visits, VisitsNext, begun};
 ghost use Rattle.tb_event_loop.specs.Serving.{IsCutOff, Runs};
+ghost use Rattle.tb_event_loop.specs.Sharing.{turned_for};
 ghost use Rattle.tb_event_loop.specs.Sockets.{deaf, waited};
 ghost use Rattle.tb_event_loop.specs.Watching.{FindsGone, FindsThere};
 ghost use Rattle.tb_event_loop.specs.declared.fault.LoopFault.TheVariants.{Moved, Sockets, Store};
@@ -22,10 +24,10 @@ use crate::journal::Journal;
 use crate::places::Places;
 use crate::service::{Service, SocketEvent, StoreFailed};
 use crate::sockets::Sockets;
+use crate::ticks::Ticks;
 use crate::watch::Watch;
 use std::alloc::{AllocError, Global};
 use std::io::Write;
-use std::time::Clock;
 use tb_rooms::Rate;
 use tb_timeouts::Limits;
 
@@ -67,7 +69,7 @@ impl EventLoop {
     /// Serves until all connections that are to come have ended. Each has a turn in each round: one read, one message, one write.
     /// Ok is returned only where there was a limit, and exactly so many connections ended. Before the turns of each new millisecond
     /// it looks whether what is served is still there, and ends where it isn't.
-    pub fn serve<N: Sockets, V: Service, C: Clock, W: Write, P: Watch>(
+    pub fn serve<N: Sockets, V: Service, C: Ticks, W: Write, P: Watch>(
         &mut self,
         sockets: &mut N,
         service: &mut V,
@@ -78,7 +80,7 @@ impl EventLoop {
             (sockets.old, service.old) (sockets.new, service.new))
             × EndsAll result (still_to_end self.old) (ends_in (done_in runs.deeds)) }
         ensures laps { IsMadeOfLaps N.follows N.last_told P.looks V.follows V.gives_file V.held_at
-            V.owed_at result self.old
+            V.owed_at V.wants result self.old
             (sockets.old, service.old, watch.old) (sockets.new, service.new, watch.new) }
         ensures cause { result ≡ Err Sockets → IsCutOff N.follows sockets.old sockets.new }
         ensures moved { result ≡ Err Moved → P.is_gone watch.new }
@@ -155,7 +157,7 @@ impl EventLoop {
     }
 
     // Sees what is ready, and puts those that came into places.
-    fn prepare<N: Sockets, C: Clock, W: Write>(
+    fn prepare<N: Sockets, C: Ticks, W: Write>(
         &mut self,
         sockets: &mut N,
         journal: &mut Journal<C, W>,
@@ -168,6 +170,8 @@ impl EventLoop {
             → may_accept (told_of (N.last_told sockets.old) self.old.arrivals) self.new.now ≡ true
             → TriesToAccept N.follows sockets.old sockets.new }
         ensures marks { Hears (N.last_told sockets.old) self.old.places self.new.places }
+        ensures moment { (shown : ℕ) × (later : C) × C.shows shown journal.old.ticks later
+            × (self.new.now ≡ max journal.old.millis shown) }
     {
         self.now = journal.now();
         self.arrivals.hear(sockets.told());
@@ -176,7 +180,7 @@ impl EventLoop {
             .seat_all(sockets, &mut self.places, journal, self.now);
     }
 
-    fn round<N: Sockets, V: Service, C: Clock, W: Write>(
+    fn round<N: Sockets, V: Service, C: Ticks, W: Write>(
         &mut self,
         sockets: &mut N,
         service: &mut V,
@@ -187,11 +191,11 @@ impl EventLoop {
             (sockets.old, service.old) (sockets.new, service.new) }
         ensures failed { IsErr result → V.has_failed service.new ≡ true }
         ensures visits { OnOk result (IsRound N.follows V.follows V.gives_file V.held_at V.owed_at
-            self.old self.new (sockets.old, service.old) (sockets.new, service.new)) }
+            V.wants self.old self.new (sockets.old, service.old) (sockets.new, service.new)) }
         ensures cut { OnErr result (IsCutRound N.follows V.follows V.gives_file V.held_at
-            V.owed_at self.old self.new (sockets.old, service.old) (sockets.new, service.new)) }
+            V.owed_at V.wants self.old self.new (sockets.old, service.old) (sockets.new, service.new)) }
         ensures each { OnOk result ((place : ℕ) → place < self.old.places.end
-            → IsVisited N.follows V.follows V.gives_file V.held_at V.owed_at
+            → IsVisited N.follows V.follows V.gives_file V.held_at V.owed_at V.wants
             place (begun self.old) (sockets.old, service.old) (sockets.new, service.new)) }
     {
         self.seen = self.now;
@@ -207,7 +211,7 @@ impl EventLoop {
     }
 
     // The turn of one place, unless its owner had enough of them in this round.
-    fn visit_next<N: Sockets, V: Service, C: Clock, W: Write>(
+    fn visit_next<N: Sockets, V: Service, C: Ticks, W: Write>(
         &mut self,
         sockets: &mut N,
         service: &mut V,
@@ -215,7 +219,7 @@ impl EventLoop {
         place: usize,
     ) -> Result<(), StoreFailed>
         ensures visits { VisitsNext N.follows V.follows V.gives_file V.held_at V.owed_at
-            (is_err result) place self.old self.new
+            V.wants (is_err result) place self.old self.new
             (sockets.old, service.old) (sockets.new, service.new) }
         ensures failed { IsErr result → V.has_failed service.new ≡ true }
     {
@@ -226,14 +230,14 @@ impl EventLoop {
     }
 
     // The turn of one place, if it has one.
-    fn visit<N: Sockets, V: Service, C: Clock, W: Write>(
+    fn visit<N: Sockets, V: Service, C: Ticks, W: Write>(
         &mut self,
         sockets: &mut N,
         service: &mut V,
         journal: &mut Journal<C, W>,
         place: usize,
     ) -> Result<(), StoreFailed>
-        ensures visits { Visits N.follows V.follows V.gives_file V.held_at V.owed_at
+        ensures visits { Visits N.follows V.follows V.gives_file V.held_at V.owed_at V.wants
             (is_err result) place self.old self.new
             (sockets.old, service.old) (sockets.new, service.new) }
         ensures failed { IsErr result → V.has_failed service.new ≡ true }
@@ -249,7 +253,12 @@ impl EventLoop {
     }
 
     // How long the turn of a place took.
-    fn count_time<C: Clock, W: Write>(&mut self, journal: &mut Journal<C, W>, place: usize)
+    fn count_time<C: Ticks, W: Write>(&mut self, journal: &mut Journal<C, W>, place: usize)
+        ensures seen { (shown : ℕ) × (later : C) × C.shows shown journal.old.ticks later
+            × (self.new.seen ≡ max journal.old.millis shown) }
+        ensures counted { SetsHold self.old.places self.new.places place
+            (turned_for self.old.places.round (self.new.seen - self.old.seen)
+            (hold_in self.old.places place)) }
         ensures left { connection_in self.new.places place ≡ connection_in self.old.places place }
         ensures limit { self.new.still_to_end ≡ self.old.still_to_end }
         ensures spares { Spares place self.old.places self.new.places }
@@ -261,7 +270,7 @@ impl EventLoop {
             .count_turn(place, self.seen.saturating_sub(before));
     }
 
-    fn take_turn<N: Sockets, V: Service, C: Clock, W: Write>(
+    fn take_turn<N: Sockets, V: Service, C: Ticks, W: Write>(
         &mut self,
         sockets: &mut N,
         service: &mut V,
@@ -274,7 +283,9 @@ impl EventLoop {
             self.old.still_to_end self.new.still_to_end
             (sockets.old, service.old) (sockets.new, service.new) }
         ensures spares { Spares place self.old.places self.new.places }
+        ensures held { OnOk result (HoldsOn self.old.places self.new.places place) }
         ensures moment { self.new.now ≡ self.old.now }
+        ensures seen { self.new.seen ≡ self.old.seen }
         ensures failed { IsErr result → V.has_failed service.new ≡ true }
         ensures left { OnOk result (is_leaving (connection_in self.new.places place) ≡ false) }
     {
@@ -296,8 +307,9 @@ impl EventLoop {
             (λ deeds. self.old.still_to_end ≢ Some 0 → Has (IsClose place) deeds)
             self.old.still_to_end self.new.still_to_end
             (sockets.old, service.old) (sockets.new, service.new) }
-        ensures spares { Spares place self.old.places self.new.places }
+        ensures vacated { Vacates self.old.places self.new.places place }
         ensures moment { self.new.now ≡ self.old.now }
+        ensures seen { self.new.seen ≡ self.old.seen }
         ensures failed { IsErr result → V.has_failed service.new ≡ true }
         ensures left { connection_in self.new.places place ≡ None }
     {

@@ -1,6 +1,7 @@
 //! The bytes between a socket and the service.
 ghost use Rattle.std.specs.Prelude.{◌≡◌, IsErr, is_err, true};
-ghost use Rattle.tb_event_loop.specs.Deeds.{ActsAt, Begins, Did, IsRead, IsWrite};
+ghost use Rattle.tb_event_loop.specs.Deeds.{ActsAt, Begins, Did};
+ghost use Rattle.tb_event_loop.specs.Heard.{Reads, Writes};
 ghost use Rattle.tb_event_loop.specs.Sockets.{Quietly};
 
 use crate::connection::{Connection, PIECE};
@@ -17,7 +18,8 @@ pub(crate) fn read_some<N: Sockets, V: Service>(
     ensures after { Did (ActsAt place N.follows V.follows V.owed_at) (is_err result) 0
         (sockets.old, service.old) (sockets.new, service.new) }
     ensures failed { IsErr result → V.has_failed service.new ≡ true }
-    ensures reads { Begins (ActsAt place N.follows V.follows V.owed_at) (is_err result) (IsRead place)
+    ensures reads { Begins (ActsAt place N.follows V.follows V.owed_at) (is_err result)
+        (Reads place connection.old connection.new)
         (sockets.old, service.old) (sockets.new, service.new) }
 {
     let mut piece = [0u8; PIECE];
@@ -58,7 +60,8 @@ pub(crate) fn write_some<N: Sockets, V: Service>(
     ensures after { Did (ActsAt place N.follows V.follows V.owed_at) (is_err result) 0
         (sockets.old, service.old) (sockets.new, service.new) }
     ensures failed { IsErr result → V.has_failed service.new ≡ true }
-    ensures writes { Begins (ActsAt place N.follows V.follows V.owed_at) (is_err result) (IsWrite place)
+    ensures writes { Begins (ActsAt place N.follows V.follows V.owed_at) (is_err result)
+        (Writes place connection.old connection.new)
         (sockets.old, service.old) (sockets.new, service.new) }
 {
     match sockets.write(place, service.unsent(place)) {

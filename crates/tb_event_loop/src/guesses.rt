@@ -140,6 +140,7 @@ fn look_first<V: Service>(
 }
 
 // Looks at a message once its head is whole, and says whether it is due.
+#[tactic(auto, unfolding(crate::specs::Guesses::counted_by, crate::specs::Guesses::is_due, crate::specs::Guesses::looked_at))]
 fn look<V: Service>(
     connection: &mut Connection,
     rates: &mut Rates,
@@ -203,6 +204,26 @@ fn has_room(slot: &Option<Connection>, holds: &[Hold], rooms: &Rooms) -> bool
         Some(connection) => !connection.has_asked || may_turn(holds, connection.owner, rooms),
         None => false,
     }
+}
+
+// Looks at what is held for a place, and says whether its message is turned now.
+fn look_at<V: Service>(
+    slot: &mut Option<Connection>,
+    rates: &mut Rates,
+    holds: &[Hold],
+    rooms: &Rooms,
+    service: &V,
+    held: &[u8],
+    now: u64,
+) -> bool
+    ensures due { result ≡ is_turned_at (V.gives_file service.now) rates.old rooms.now holds.now
+        held.now now slot.old }
+    ensures asked { slot.new ≡ option_map (guesses.looked_at (V.gives_file service.now)
+        rates.old held.now now) slot.old }
+    ensures counted { rates.new ≡ guesses.counted_at (V.gives_file service.now)
+        slot.old held.now now rates.old }
+{
+    look_into(slot, rates, service, held, now) && has_room(slot, holds, rooms)
 }
 
 fn has_status(answer: &[u8], status: &str) -> bool
@@ -288,10 +309,15 @@ impl Places {
             ≡ record self.old { connections = self.new.connections; rates = self.new.rates } }
     {
         match self.connections.get_mut(place) {
-            Some(slot) => {
-                look_into(slot, &mut self.rates, service, service.held(place), now)
-                    && has_room(slot, &self.holds, &self.rooms)
-            }
+            Some(slot) => look_at(
+                slot,
+                &mut self.rates,
+                &self.holds,
+                &self.rooms,
+                service,
+                service.held(place),
+                now,
+            ),
             None => false,
         }
     }
@@ -321,8 +347,8 @@ impl Places {
         ensures { result
             ≡ guesses.until_one (waits_until now (connection_in self.now place)) now most }
     {
-        match self.connections.get(place) {
-            Some(Some(connection)) if connection.may_answer && !connection.may_go(now) => {
+        match self.at(place) {
+            Some(connection) if connection.may_answer && !connection.may_go(now) => {
                 most.min(connection.due.saturating_sub(now))
             }
             _ => most,

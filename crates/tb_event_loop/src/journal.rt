@@ -1,29 +1,31 @@
 //! The time, and what is told on standard error.
-ghost use Rattle.std.specs.Prelude.{◌≡◌, ◌⊎◌, ◌-◌, [], false, IfErr, length, OnOk, take, unwrap_or};
+ghost use Rattle.std.specs.Prelude.{◌≡◌, ◌⊎◌, ◌-◌, ℕ, [], false, IfErr, length, max, OnOk, take, true, unwrap_or};
 ghost use Rattle.std.specs.Io.KnownBytes.{Appends};
 ghost use Rattle.std.specs.Option.{option_copied};
-ghost use Rattle.tb_event_loop.specs.Journal.{IsTold, IsToldFailed, status_in};
+ghost use Rattle.tb_event_loop.specs.Journal.{IsLogged, IsTold, IsToldFailed, status_in};
 ghost use Rattle.tb_program.specs.declared.fault.Fault.TheVariants.{WriteFailed};
 ghost use Rattle.tb_values.specs.Appends.{AppendsFront};
 
 use crate::logging::{FailedMessage, LogEntry, failure_line, log_line};
 use crate::request_line::{RequestLine, read_request_line};
+use crate::ticks::Ticks;
 use std::alloc::Global;
 use std::io;
 use std::io::Write;
-use std::time::{Clock, Instant};
-use tb_program::{Fault, machine_moment};
+use tb_program::Fault;
 use tb_task::Moment;
 use tb_values::write_whole;
 
 /// Tells the time, and writes what happens.
 #[derive(Drop)]
-pub struct Journal<C: Clock, W: Write> {
+pub struct Journal<T: Ticks, W: Write> {
     alloc: Global,
-    clock: C,
+    ticks: T,
     errors: W,
     is_logged: bool,
-    started: Option<Instant>,
+    /// How many lines couldn't be written, since the last that was.
+    missed: u64,
+    /// The most that its clock showed so far.
     millis: u64,
     /// The front of the message that is being answered, or nothing where there was no memory for it.
     head: Vec<u8>,
@@ -31,37 +33,35 @@ pub struct Journal<C: Clock, W: Write> {
     began: u64,
 }
 
-impl<C: Clock, W: Write> Journal<C, W> {
+impl<T: Ticks, W: Write> Journal<T, W> {
     /// A journal that begins now. With the log it tells each message.
-    pub fn new(alloc: Global, clock: C, errors: W, is_logged: bool) -> Journal<C, W>
+    pub fn new(alloc: Global, ticks: T, errors: W, is_logged: bool) -> Journal<T, W>
+        ensures ticks { result.ticks ≡ ticks }
         ensures begins { result.errors ≡ errors }
         ensures logs { result.is_logged ≡ is_logged }
         ensures empty { result.head.items ≡ [] }
     {
-        let started = Instant::now(&clock).ok();
         Journal {
             alloc,
-            clock,
+            ticks,
             errors,
             is_logged,
-            started,
+            missed: 0,
             millis: 0,
             head: Vec::new(alloc),
             began: 0,
         }
     }
 
-    /// How many milliseconds have passed. Where the clock can't be read, it is the same as before.
+    /// How many milliseconds have passed, as its clock shows. It never goes back.
     pub(crate) fn now(&mut self) -> u64
         ensures told { result ≡ self.new.millis }
-        ensures others { self.new ≡ record self.old { millis = self.new.millis } }
+        ensures shown { (shown : ℕ) × T.shows shown self.old.ticks self.new.ticks
+            × (self.new.millis ≡ max self.old.millis shown) }
+        ensures others { self.new
+            ≡ record self.old { ticks = self.new.ticks; millis = self.new.millis } }
     {
-        if let Some(started) = self.started
-            && let Ok(now) = Instant::now(&self.clock)
-        {
-            let passed = now.duration_since(started).as_millis();
-            self.millis = u64::try_from(passed).unwrap_or(u64::MAX);
-        }
+        self.millis = self.millis.max(self.ticks.millis());
         self.millis
     }
 
@@ -94,15 +94,24 @@ impl<C: Clock, W: Write> Journal<C, W> {
         &self.head
     }
 
-    /// Tells of the message, with the log, that it was answered by this text.
+    /// Tells of the message, with the log, that it was answered by this text. A line that can't be written counts as missing.
     pub(crate) fn end(&mut self, answer: &[u8])
         ensures off { self.old.is_logged ≡ false → self.new.errors ≡ self.old.errors }
         ensures told { (self.new.errors ≡ self.old.errors)
             ⊎ IsTold self.old.head.items answer.now (self.new.millis - self.old.began)
+            self.old.missed
             (AppendsFront (W.contents self.old.errors) (W.contents self.new.errors)) }
+        ensures logged { self.old.is_logged ≡ true
+            → IsLogged self.old.head.items answer.now (self.new.millis - self.old.began)
+            self.old.missed self.new.missed
+            (Appends (W.contents self.old.errors) (W.contents self.new.errors)) }
     {
-        if self.is_logged && !self.head.is_empty() {
-            let _ = self.tell_answered(answer);
+        if !self.is_logged {
+            return;
+        }
+        match self.tell_answered(answer) {
+            Ok(()) => self.missed = 0,
+            Err(_) => self.missed = self.missed.saturating_add(1),
         }
     }
 
@@ -110,18 +119,25 @@ impl<C: Clock, W: Write> Journal<C, W> {
     fn tell_answered(&mut self, answer: &[u8]) -> Result<(), Fault>
         ensures whole { OnOk result
             (IsTold self.old.head.items answer.now (self.new.millis - self.old.began)
+            self.old.missed
             (Appends (W.contents self.old.errors) (W.contents self.new.errors))) }
         ensures told { (self.new.errors ≡ self.old.errors)
             ⊎ IsTold self.old.head.items answer.now (self.new.millis - self.old.began)
+            self.old.missed
             (AppendsFront (W.contents self.old.errors) (W.contents self.new.errors)) }
+        ensures missed { self.new.missed ≡ self.old.missed }
         ensures silent { IfErr result (λ fault. (fault ≡ WriteFailed)
             ⊎ (self.new.errors ≡ self.old.errors)) }
     {
-        let Some(moment) = machine_moment(&self.clock) else {
+        if self.head.is_empty() {
+            return Err(Fault::Memory);
+        }
+        let Some(moment) = self.ticks.moment() else {
             return Err(Fault::NoClock);
         };
         let millis = self.now().saturating_sub(self.began);
-        let entry = entry_of(read_request_line(&self.head), answer, moment, millis);
+        let request = read_request_line(&self.head);
+        let entry = entry_of(request, answer, self.missed, moment, millis);
         let line = log_line(self.alloc, &entry)?;
         write_line(&mut self.errors, &line)
     }
@@ -131,7 +147,7 @@ impl<C: Clock, W: Write> Journal<C, W> {
         ensures told { (self.new.errors ≡ self.old.errors) ⊎ IsToldFailed self.old.head.items
             (AppendsFront (W.contents self.old.errors) (W.contents self.new.errors)) }
     {
-        let moment = machine_moment(&self.clock);
+        let moment = self.ticks.moment();
         let failed = failed_of(read_request_line(&self.head), moment);
         if let Ok(line) = failure_line(self.alloc, &failed) {
             let _ = write_line(&mut self.errors, &line);
@@ -156,6 +172,7 @@ fn write_line<W: Write>(errors: &mut W, line: &[u8]) -> Result<(), Fault>
 fn entry_of<'a>(
     request: RequestLine<'a>,
     answer: &'a [u8],
+    missed: u64,
     moment: Moment,
     millis: u64,
 ) -> LogEntry<'a>
@@ -164,7 +181,7 @@ fn entry_of<'a>(
     ensures member { option_copied result.member ≡ option_copied request.entry.member }
     ensures status { result.status.now ≡ status_in answer.now }
     ensures numbers { (result.moment ≡ moment) × (result.bytes ≡ length answer.now)
-        × (result.millis ≡ millis) }
+        × (result.millis ≡ millis) × (result.missed ≡ missed) }
 {
     let RequestLine {
         method,
@@ -172,6 +189,7 @@ fn entry_of<'a>(
         member,
     } = request;
     LogEntry {
+        missed,
         moment,
         member,
         method,

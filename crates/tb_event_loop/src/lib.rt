@@ -19,6 +19,7 @@ mod request_line;
 mod service;
 mod sharing;
 mod sockets;
+mod ticks;
 mod turn;
 mod watch;
 
@@ -29,4 +30,5 @@ pub use logging::{FailedMessage, LogEntry, failure_line, log_line};
 pub use mio_sockets::MioSockets;
 pub use service::{Service, SocketEvent, StoreFailed};
 pub use sockets::{Sockets, Told};
+pub use ticks::Ticks;
 pub use watch::Watch;

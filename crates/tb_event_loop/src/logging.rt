@@ -1,15 +1,20 @@
 //! Lines that tell of messages.
-ghost use Rattle.std.specs.Prelude.{◌≡◌, ◌<◌, ◌++◌, codes, decimal, IfOk, OnOk};
+ghost use Rattle.std.specs.Prelude.{◌≡◌, ◌<◌, ◌++◌, codes, decimal, IfOk, OnOk, take};
 ghost use Rattle.std.specs.Option.{option_copied};
-ghost use Rattle.tb_event_loop.specs.Logging.{escaped, escaped_byte, failure_text, hex_digit, is_plain, known_moment, known_text, log_text, member_text};
+ghost use Rattle.tb_event_loop.specs.Logging.{escaped, escaped_byte, failure_text, hex_digit, is_plain, known_moment, known_text, log_text, member_text, missed_text, written_out};
 
 use itoa::Buffer;
 use std::alloc::{AllocError, Global};
 use tb_task::Moment;
 
+/// How many bytes of a word are told, so that a line is short however long a message makes its name or its target.
+const LONGEST_WORD: usize = 200;
+
 /// What is told of a message that was answered. A member's key has no place in it.
 #[derive(Clone, Copy)]
 pub struct LogEntry<'a> {
+    /// How many lines before it couldn't be written.
+    pub missed: u64,
     pub moment: Moment,
     /// The name that the message gives, which may be of no member.
     pub member: Option<&'a [u8]>,
@@ -25,7 +30,9 @@ pub struct LogEntry<'a> {
 pub fn log_line(alloc: Global, entry: &LogEntry<'_>) -> Result<Vec<u8>, AllocError>
     ensures { IfOk result (λ line. line.items ≡ log_text entry.now) }
 {
-    let mut line = Vec::from_slice(alloc, &entry.moment.write())?;
+    let mut line = Vec::new(alloc);
+    push_missed(&mut line, entry.missed)?;
+    line.extend_from_slice(&entry.moment.write())?;
     push_member(&mut line, entry.member)?;
     push_word(&mut line, entry.method)?;
     push_word(&mut line, entry.target)?;
@@ -100,15 +107,50 @@ fn push_number(line: &mut Vec<u8>, number: u64) -> Result<(), AllocError>
     line.extend_from_slice(buffer.format(number).as_bytes())
 }
 
-// A blank, and the text with each byte that is no plain sign written out.
+// A blank, and the front of the text with each byte that is no plain sign written out.
 fn push_word(line: &mut Vec<u8>, text: &[u8]) -> Result<(), AllocError>
     ensures { OnOk result (line.new.items ≡ line.old.items ++ codes " " ++ escaped text.now) }
 {
     line.extend_from_slice(b" ")?;
+    push_bytes(line, front(text))
+}
+
+fn front(text: &[u8]) -> &[u8]
+    ensures { result.now ≡ take LONGEST_WORD text.now }
+{
+    match text.get(..LONGEST_WORD) {
+        Some(front) => front,
+        None => text,
+    }
+}
+
+fn push_bytes(line: &mut Vec<u8>, text: &[u8]) -> Result<(), AllocError>
+    ensures { OnOk result (line.new.items ≡ line.old.items ++ written_out text.now) }
+{
     for byte in text {
         push_byte(line, *byte)?;
     }
     Ok(())
+}
+
+// A line that tells how many before it are missing, if any are. It begins a line of its own, since a front of the last may be there.
+fn push_missed(line: &mut Vec<u8>, missed: u64) -> Result<(), AllocError>
+    ensures { OnOk result (line.new.items ≡ line.old.items ++ missed_text missed) }
+{
+    if missed == 0 {
+        return Ok(());
+    }
+    push_count(line, missed)
+}
+
+fn push_count(line: &mut Vec<u8>, missed: u64) -> Result<(), AllocError>
+    ensures { OnOk result (line.new.items ≡ line.old.items
+        ++ codes "\ntaskboard: lines of the log that couldn't be written:" ++ codes " "
+        ++ decimal missed ++ codes "\n") }
+{
+    line.extend_from_slice(b"\ntaskboard: lines of the log that couldn't be written:")?;
+    push_number(line, missed)?;
+    line.extend_from_slice(b"\n")
 }
 
 fn push_byte(line: &mut Vec<u8>, byte: u8) -> Result<(), AllocError>

@@ -1,6 +1,7 @@
 //! The sockets of this machine.
-ghost use Rattle.std.specs.Prelude.{◌≡◌, IfErr, ◌⊎◌};
+ghost use Rattle.std.specs.Prelude.{◌≡◌, ◌∷◌, [], IfErr, Some, ◌⊎◌};
 ghost use Rattle.tb_event_loop.specs.declared.fault.LoopFault.TheVariants.{Memory, Sockets as NoSockets};
+ghost use Rattle.tb_program.specs.Listening.{ipv4_octets_of};
 
 use crate::connection::PIECE;
 use crate::fault::LoopFault;
@@ -35,11 +36,12 @@ pub struct MioSockets {
 }
 
 impl MioSockets {
-    /// Listens on an address.
+    /// Listens on an address that this machine alone reaches.
     pub fn listen(
         rt: &(impl Net + AllocGlobal),
         address: SocketAddr,
     ) -> Result<MioSockets, LoopFault>
+        requires loopback { ipv4_octets_of address ≡ Some (127 ∷ 0 ∷ 0 ∷ 1 ∷ []) }
         ensures { IfErr result (λ fault. (fault ≡ Memory) ⊎ (fault ≡ NoSockets)) }
     {
         let Ok(poll) = Poll::new(rt) else {

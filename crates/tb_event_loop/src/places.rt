@@ -2,7 +2,7 @@
 ghost use Rattle.std.specs.Prelude.{◌≡◌, ◌↔◌, ℕ, IsTrue, IfOk, position, slice_set, take, true};
 ghost use Rattle.tb_event_loop.specs.Places.{Changes, Enters, HasTurn, HaveTurns, IsEmpty, IsEndWithin, IsNeed, LendsConnection, LetsGoOne, NeedsBytes, Seats, SetsHold, SetsStage, Spares, Vacates, connection_in, hold_in, is_leaving, is_read, may_answer_at, may_turn_of, stage_in};
 ghost use Rattle.std.specs.Borrow.{sem};
-ghost use Rattle.std.specs.Option.{option_copied_mut, option_map};
+ghost use Rattle.std.specs.Option.{option_copied, option_copied_mut, option_map};
 ghost use Rattle.tb_event_loop.specs.Connection.{leaving, marked, short_of_bytes};
 ghost use Rattle.tb_event_loop.specs.Hearing.{marked_by, marked_if};
 ghost use Rattle.tb_event_loop.specs.Sockets.{Quietly};
@@ -86,6 +86,16 @@ impl Places {
         }
     }
 
+    /// The connection of a place, if there is one.
+    pub(crate) fn at(&self, place: usize) -> Option<&Connection>
+        ensures { option_copied result ≡ connection_in self.now place }
+    {
+        match self.connections.get(place) {
+            Some(Some(connection)) => Some(connection),
+            _ => None,
+        }
+    }
+
     pub(crate) fn connection(&mut self, place: usize) -> Option<&mut Connection>
         ensures* lends { sem 𝓛 (LendsConnection self.entry place result) }
         ensures value { option_copied_mut result ≡ connection_in self.old place }
@@ -163,9 +173,9 @@ impl Places {
     pub(crate) fn may_answer(&self, place: usize) -> bool
         ensures { result ≡ may_answer_at (connection_in self.now place) }
     {
-        match self.connections.get(place) {
-            Some(Some(connection)) => connection.may_answer,
-            _ => false,
+        match self.at(place) {
+            Some(connection) => connection.may_answer,
+            None => false,
         }
     }
 
@@ -173,18 +183,18 @@ impl Places {
     pub(crate) fn needs_bytes(&self, place: usize) -> bool
         ensures { IsTrue result ↔ NeedsBytes self.now place }
     {
-        match self.connections.get(place) {
-            Some(Some(connection)) => connection.needs_bytes() && self.may_read(place),
-            _ => false,
+        match self.at(place) {
+            Some(connection) => connection.needs_bytes() && self.may_read(place),
+            None => false,
         }
     }
 
     pub(crate) fn is_gone(&self, place: usize) -> bool
         ensures { result ≡ is_leaving (connection_in self.now place) }
     {
-        match self.connections.get(place) {
-            Some(Some(connection)) => connection.is_gone,
-            _ => false,
+        match self.at(place) {
+            Some(connection) => connection.is_gone,
+            None => false,
         }
     }
 
@@ -244,7 +254,7 @@ impl Places {
     pub(crate) fn has_turn(&self, place: usize, now: u64) -> bool
         ensures { IsTrue result ↔ HasTurn self.now place now }
     {
-        let Some(Some(connection)) = self.connections.get(place) else {
+        let Some(connection) = self.at(place) else {
             return false;
         };
         if connection.is_gone {

@@ -13,9 +13,9 @@ impl Places {
     fn owner(&self, place: usize) -> u64
         ensures { result ≡ owner_at (connection_in self.now place) }
     {
-        match self.connections.get(place) {
-            Some(Some(connection)) => connection.owner,
-            _ => STRANGER,
+        match self.at(place) {
+            Some(connection) => connection.owner,
+            None => STRANGER,
         }
     }
 

@@ -1,7 +1,12 @@
 //! The turn of one connection: at most one read, one message and one write.
-ghost use Rattle.std.specs.Prelude.{◌≡◌, ◌↔◌, ◌⊎◌, [], ◌∷◌, IsErr, IsOk, IsTrue, false, is_err, slice_set, true};
+ghost use Rattle.std.specs.Prelude.{◌≡◌, ◌↔◌, ◌⊎◌, ◌-◌, [], ◌∷◌, IsErr, IsOk, IsTrue, OnOk, false, is_err, is_ok, slice_set, true};
+ghost use Rattle.tb_event_loop.specs.Answering.{Answers, EndsMessage, accounted};
 ghost use Rattle.tb_event_loop.specs.Deeds.{ActsAt, Begins, Did, GivesTurn, IsRead, IsWrite, OwesBytes, TurnsOrNot};
 ghost use Rattle.tb_event_loop.specs.Done.{turned};
+ghost use Rattle.std.specs.Io.KnownBytes.{Appends};
+ghost use Rattle.tb_event_loop.specs.Journal.{IsLogged};
+ghost use Rattle.tb_event_loop.specs.Heard.{ReadsAt, WritesAt};
+ghost use Rattle.tb_event_loop.specs.Noting.{CountsOut};
 ghost use Rattle.tb_event_loop.specs.Places.{Ends, GoesOn, HasTurn, IsAnswered, IsHeard, IsWritten, LacksAll, NeedsBytes, SetsStage, Settles, Spares, can_write_at, connection_in, is_leaving, is_over_at, is_turned_in, is_waiting, may_answer_at, stage_in};
 ghost use Rattle.tb_event_loop.specs.Sockets.{Quietly};
 ghost use Rattle.tb_timeouts.specs.Stage.{next_stage, read_stage, waiting_stage};
@@ -12,8 +17,9 @@ use crate::journal::Journal;
 use crate::places::Places;
 use crate::service::{Service, SocketEvent, StoreFailed};
 use crate::sockets::Sockets;
+use crate::ticks::Ticks;
+use std::alloc::AllocError;
 use std::io::Write;
-use std::time::Clock;
 use tb_rooms::Written;
 use tb_timeouts::{Need, Stage};
 
@@ -68,7 +74,7 @@ impl Places {
     }
 
     /// Does what a connection has to do, by its stage, unless it is to leave.
-    pub(crate) fn act<N: Sockets, V: Service, C: Clock, W: Write>(
+    pub(crate) fn act<N: Sockets, V: Service, C: Ticks, W: Write>(
         &mut self,
         sockets: &mut N,
         service: &mut V,
@@ -92,6 +98,7 @@ impl Places {
         ensures gone { is_leaving (connection_in self.old place) ≡ true
             → (self.new ≡ self.old) × IsOk result }
         ensures spares { Spares place self.old self.new }
+        ensures counts { CountsOut self.old self.new place }
     {
         if self.is_gone(place) {
             return Ok(());
@@ -108,7 +115,7 @@ impl Places {
     }
 
     // Reads, answers and writes.
-    fn converse<N: Sockets, V: Service, C: Clock, W: Write>(
+    fn converse<N: Sockets, V: Service, C: Ticks, W: Write>(
         &mut self,
         sockets: &mut N,
         service: &mut V,
@@ -128,13 +135,14 @@ impl Places {
             → Begins (ActsAt place N.follows V.follows V.owed_at) (is_err result) (IsRead place)
             (sockets.old, service.old) (sockets.new, service.new) }
         ensures spares { Spares place self.old self.new }
+        ensures counts { CountsOut self.old self.new place }
     {
         self.read(sockets, service, place, now)?;
         self.respond(sockets, service, journal, place, now)
     }
 
     // Answers and writes.
-    fn respond<N: Sockets, V: Service, C: Clock, W: Write>(
+    fn respond<N: Sockets, V: Service, C: Ticks, W: Write>(
         &mut self,
         sockets: &mut N,
         service: &mut V,
@@ -151,6 +159,7 @@ impl Places {
             → GivesTurn (ActsAt place N.follows V.follows V.owed_at) (is_err result) place
             (sockets.old, service.old) (sockets.new, service.new) }
         ensures spares { Spares place self.old self.new }
+        ensures counts { CountsOut self.old self.new place }
     {
         self.answer(service, journal, place, now)?;
         self.reply(sockets, service, place, now)
@@ -170,6 +179,8 @@ impl Places {
             → can_write_at (connection_in self.old place) ≡ true
             → Begins (ActsAt place N.follows V.follows V.owed_at) (is_err result) (IsWrite place)
             (sockets.old, service.old) (sockets.new, service.new) }
+        ensures keeps { self.new
+            ≡ record self.old { connections = self.new.connections; stages = self.new.stages } }
         ensures spares { Spares place self.old self.new }
     {
         self.write(sockets, service, place, now)?;
@@ -207,8 +218,11 @@ impl Places {
         ensures same { ¬ NeedsBytes self.old place → self.new ≡ self.old }
         ensures silent { ¬ NeedsBytes self.old place → sockets.new ≡ sockets.old }
         ensures reads { NeedsBytes self.old place
-            → Begins (ActsAt place N.follows V.follows V.owed_at) (is_err result) (IsRead place)
+            → Begins (ActsAt place N.follows V.follows V.owed_at) (is_err result)
+            (ReadsAt place self.old self.new)
             (sockets.old, service.old) (sockets.new, service.new) }
+        ensures keeps { self.new
+            ≡ record self.old { connections = self.new.connections; stages = self.new.stages } }
         ensures spares { Spares place self.old self.new }
     {
         if !self.needs_bytes(place) {
@@ -230,8 +244,10 @@ impl Places {
             (sockets.old, service.old) (sockets.new, service.new) }
         ensures failed { IsErr result → V.has_failed service.new ≡ true }
         ensures reads { NeedsBytes self.old place
-            → Begins (ActsAt place N.follows V.follows V.owed_at) (is_err result) (IsRead place)
+            → Begins (ActsAt place N.follows V.follows V.owed_at) (is_err result)
+            (ReadsAt place self.old self.new)
             (sockets.old, service.old) (sockets.new, service.new) }
+        ensures same { self.new ≡ record self.old { connections = self.new.connections } }
         ensures spares { Spares place self.old self.new }
     {
         match self.connection(place) {
@@ -241,7 +257,7 @@ impl Places {
     }
 
     // Answers the next message, if it is whole.
-    fn answer<V: Service, C: Clock, W: Write>(
+    fn answer<V: Service, C: Ticks, W: Write>(
         &mut self,
         service: &mut V,
         journal: &mut Journal<C, W>,
@@ -260,7 +276,15 @@ impl Places {
             (V.held_at service.old place) ≡ false → service.new ≡ service.old }
         ensures same { may_answer_at (connection_in self.old place) ≡ false
             → self.new ≡ self.old }
+        ensures answers { IsTrue (may_answer_at (connection_in self.old place))
+            → IsTrue (is_turned_in (V.gives_file service.old) self.old place now
+            (V.held_at service.old place))
+            → OnOk result (Answers (V.gives_file service.old) (V.gives_file service.new) place now
+            (V.held_at service.old place) (V.owed_at service.new place)
+            (V.held_at service.new place) (V.closes_at service.new place)
+            self.old self.new) }
         ensures spares { Spares place self.old self.new }
+        ensures counts { CountsOut self.old self.new place }
     {
         if !self.may_answer(place) {
             return Ok(());
@@ -275,7 +299,8 @@ impl Places {
             journal.tell_failed();
             return Err(StoreFailed);
         }
-        self.end_message(service, journal, place, before, now);
+        let after = service.written();
+        let _ = self.end_message(service, journal, place, before, after, now);
         self.enter(service, place, now);
         Ok(())
     }
@@ -288,28 +313,54 @@ impl Places {
         self.set_stage(place, stage);
     }
 
-    // What is left to do behind the turn of a message, if it was whole.
-    fn end_message<V: Service, C: Clock, W: Write>(
+    // What is left to do behind the turn of a message, if it was whole. Without memory it isn't charged, or its key not learned.
+    fn end_message<V: Service, C: Ticks, W: Write>(
         &mut self,
         service: &V,
         journal: &mut Journal<C, W>,
         place: usize,
         before: Written,
+        after: Written,
         now: u64,
-    )
-        ensures spares { Spares place self.old self.new }
+    ) -> Result<(), AllocError>
+        ensures ends { EndsMessage (V.gives_file service.now) journal.old.head.items
+            (V.owed_at service.now place) (after.own - before.own) (after.swept - before.swept)
+            now (is_ok result) self.old self.new place }
+        ensures logged { OwesBytes (V.owed_at service.now place) → journal.old.is_logged ≡ true
+            → IsLogged journal.old.head.items (V.owed_at service.now place)
+            (journal.new.millis - journal.old.began) journal.old.missed journal.new.missed
+            (Appends (W.contents journal.old.errors) (W.contents journal.new.errors)) }
     {
         let answer = service.unsent(place);
         if answer.is_empty() {
             self.lack_bytes(place);
-            return;
+            return Ok(());
         }
-        let _ = self.charge(journal.head(), before, service.written(), now);
-        let _ = self.heed(service, journal.head(), answer);
+        let kept = self.account(service, journal.head(), answer, before, after, now);
         let owner = self.owner_of(journal.head());
         self.await_next(place, owner);
         self.count_answer(place, answer.len());
         journal.end(answer);
+        kept
+    }
+
+    // Charges what a message wrote, and then heeds what its answer says of its key. Without memory one of both isn't done.
+    fn account<V: Service>(
+        &mut self,
+        service: &V,
+        head: &[u8],
+        answer: &[u8],
+        before: Written,
+        after: Written,
+        now: u64,
+    ) -> Result<(), AllocError>
+        ensures ok { OnOk result (self.new.rates ≡ accounted (V.gives_file service.now) head.now
+            answer.now (after.own - before.own) (after.swept - before.swept) now self.old.rates) }
+        ensures others { self.new ≡ record self.old { rates = self.new.rates } }
+    {
+        let charged = self.charge(head, before, after, now);
+        self.heed(service, head, answer)?;
+        charged
     }
 
     // Writes where an answer is there.
@@ -325,8 +376,11 @@ impl Places {
         ensures failed { IsErr result → V.has_failed service.new ≡ true }
         ensures writes { OwesBytes (V.owed_at service.old place)
             → can_write_at (connection_in self.old place) ≡ true
-            → Begins (ActsAt place N.follows V.follows V.owed_at) (is_err result) (IsWrite place)
+            → Begins (ActsAt place N.follows V.follows V.owed_at) (is_err result)
+            (WritesAt place self.old self.new)
             (sockets.old, service.old) (sockets.new, service.new) }
+        ensures keeps { self.new
+            ≡ record self.old { connections = self.new.connections; stages = self.new.stages } }
         ensures spares { Spares place self.old self.new }
     {
         let before = service.unsent(place).len();
@@ -350,8 +404,10 @@ impl Places {
         ensures failed { IsErr result → V.has_failed service.new ≡ true }
         ensures writes { OwesBytes (V.owed_at service.old place)
             → can_write_at (connection_in self.old place) ≡ true
-            → Begins (ActsAt place N.follows V.follows V.owed_at) (is_err result) (IsWrite place)
+            → Begins (ActsAt place N.follows V.follows V.owed_at) (is_err result)
+            (WritesAt place self.old self.new)
             (sockets.old, service.old) (sockets.new, service.new) }
+        ensures same { self.new ≡ record self.old { connections = self.new.connections } }
         ensures spares { Spares place self.old self.new }
     {
         if service.unsent(place).is_empty() {
@@ -369,9 +425,9 @@ impl Places {
     fn can_write(&self, place: usize) -> bool
         ensures { result ≡ can_write_at (connection_in self.now place) }
     {
-        match self.connections.get(place) {
-            Some(Some(connection)) => connection.can_write,
-            _ => false,
+        match self.at(place) {
+            Some(connection) => connection.can_write,
+            None => false,
         }
     }
 

@@ -1,5 +1,9 @@
 pub mod Begun
+pub mod Exported
 pub mod Faults
+pub mod Given
+pub mod Handed
+pub mod Made
 pub mod Quiet
 pub mod Unmade
 pub mod Unopened

@@ -9,7 +9,7 @@ use Rattle.tb_keeper.specs.declared.creating.CreateFault.{CreateFault}
 use Rattle.tb_keeper.specs.declared.creating.CreateFault.TheVariants as making
 use Rattle.tb_files.specs.Init.{IsUnmadeFor}
 use Rattle.tb_headline.specs.Refusals.{IsFilled, IsUnmade}
-use Rattle.tb_orders.specs.Faults.{fault_of_making}
+use Rattle.tb_files.specs.Faults.{fault_of_making}
 
 store_filled : making.Store ≡ making.NotEmpty → ⊥
 store_filled is = absurd (cc)

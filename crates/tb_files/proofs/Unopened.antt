@@ -5,7 +5,7 @@ use Rattle.sqlite_disk.specs.declared.Disk.{Ghosts as DiskGhosts}
 use Rattle.sqlite_store.specs.declared.store.FileStore.{FileStore}
 use Rattle.tb_files.specs.NotDone.{IsUntaken}
 use Rattle.tb_headline.specs.Refusals.{IsRefused}
-use Rattle.tb_orders.specs.Faults.{fault_of_opening}
+use Rattle.tb_files.specs.Faults.{fault_of_opening}
 use Rattle.tb_sql.specs.declared.opening.OpenFault.{OpenFault}
 use Rattle.tb_sql.specs.declared.opening.OpenFault.TheVariants as opening
 

@@ -9,7 +9,7 @@ use Rattle.tb_keeper.specs.declared.sql_keep.SqlKeep.{SqlKeep}
 use Rattle.tb_files.specs.File.{IsSaved}
 use Rattle.tb_keeper.specs.Auditing.{IsCountOf}
 use Rattle.tb_keeper.specs.declared.auditing.Audit.{Audit}
-use Rattle.tb_orders.specs.Auditing.{audit_line, ending_of_audit}
+use Rattle.tb_files.specs.Auditing.{audit_line, ending_of_audit}
 use Rattle.tb_orders.specs.declared.ending.Ending.{Ending}
 use Rattle.tb_lookup.specs.Reopening.{OfContent}
 use Rattle.tb_values.specs.Appends.{AppendsFront}

@@ -3,11 +3,12 @@ use Rattle.std.specs.Prelude.{◌≡◌, ◌⊎◌, Bool, true, false, ℕ, List
 use Rattle.sqlite.specs.Held.{Held}
 use Rattle.sqlite_disk.specs.declared.Disk.{Ghosts as DiskGhosts}
 use Rattle.sqlite_store.specs.declared.store.FileStore.{FileStore}
+use Rattle.sqlite_wal.specs.Recovery.{Image}
 use Rattle.tb_calls.specs.Call.{State}
 use Rattle.tb_calls.specs.Leaving.{Only}
 use Rattle.tb_calls.specs.declared.keep.Keep.{Ghosts}
 use Rattle.tb_command_line.specs.declared.order.ImportOrder.{ImportOrder}
-use Rattle.tb_files.specs.File.{BeginsSession, IsUnsaved}
+use Rattle.tb_files.specs.File.{BeginsSession, IsFoundIn, IsUnsaved}
 use Rattle.tb_files.specs.NotDone.{IsUntaken}
 use Rattle.tb_keeper.specs.declared.sql_keep.SqlKeep.{SqlKeep}
 use Rattle.tb_orders.specs.Doing.{Does}
@@ -34,10 +35,12 @@ abbrev pub EndsIn : Result Ending Fault → Fault → Type 0
 EndsIn (Ok ending) told = told ≡ fault.Store
 EndsIn (Err why) told = told ≡ why
 
-module _ {D : Type 0} {d : DiskGhosts D} (g : Ghosts (SqlKeep (FileStore D d))) where
-  -- no session began over what a connection found
+module _ {D : Type 0} {d : DiskGhosts D} (g : Ghosts (SqlKeep (FileStore D d)))
+    (start : Image) where
+  -- no session began over what a connection found in these bytes
   pub record IsNotTaken (told : Fault) : Type 0 where
     pub found : Held (FileStore D d)
+    pub is_found : IsFoundIn start found
     pub left : Held (FileStore D d)
     pub untaken : IsUntaken found left told
 
@@ -47,10 +50,6 @@ module _ {D : Type 0} {d : DiskGhosts D} (g : Ghosts (SqlKeep (FileStore D d))) 
 
 module _ {D W : Type 0} {d : DiskGhosts D} (g : Ghosts (SqlKeep (FileStore D d)))
     (contents : W → Option (List ℕ)) where
-  -- no session began, and nothing was printed
-  abbrev pub IsUnbegun : W → W → Fault → Type 0
-  IsUnbegun before after told = IsUnopened g told × (after ≡ before)
-
   -- an import in a session
   pub record IsImportCut (given : ℕ → Type 0) (order : ImportOrder) (input : Option (List ℕ))
       (before after : W) (told : Fault) (old : SqlKeep (FileStore D d)) : Type 0 where
@@ -73,10 +72,16 @@ module _ {D W : Type 0} {d : DiskGhosts D} (g : Ghosts (SqlKeep (FileStore D d))
         → IsRunOf given order input s end (g.is_honest new) (g.holds new) (g.after_stop new)
         (contents before) (contents after)
 
+module _ {D W : Type 0} {d : DiskGhosts D} (g : Ghosts (SqlKeep (FileStore D d)))
+    (start : Image) (contents : W → Option (List ℕ)) where
+  -- no session began over these bytes, and nothing was printed
+  abbrev pub IsUnbegun : W → W → Fault → Type 0
+  IsUnbegun before after told = IsUnopened g start told × (after ≡ before)
+
   abbrev pub IsImportFailed : (ℕ → Type 0) → ImportOrder → Option (List ℕ) → W → W → Fault → Type 0
   IsImportFailed given order input before after told = IsUnbegun before after told
-      ⊎ BeginsSession g (IsImportCut given order input before after told)
+      ⊎ BeginsSession g start (IsImportCut g contents given order input before after told)
 
   abbrev pub IsRunFailed : (ℕ → Type 0) → ImportOrder → Option (List ℕ) → W → W → Fault → Type 0
   IsRunFailed given order input before after told = IsUnbegun before after told
-      ⊎ BeginsSession g (IsRunCut given order input before after told)
+      ⊎ BeginsSession g start (IsRunCut g contents given order input before after told)

@@ -3,6 +3,7 @@ use Rattle.std.specs.Prelude.{ℕ, List, Option, Ok}
 use Rattle.sqlite_disk.specs.declared.Disk.{Ghosts as DiskGhosts}
 use Rattle.sqlite_disk.specs.declared.Files.{Files}
 use Rattle.sqlite_store.specs.declared.store.FileStore.{FileStore}
+use Rattle.sqlite_wal.specs.Recovery.{Image}
 use Rattle.tb_calls.specs.declared.keep.Keep.{Ghosts}
 use Rattle.tb_keeper.specs.declared.sql_keep.SqlKeep.{SqlKeep}
 use Rattle.tb_calls.specs.Call.{State}
@@ -33,13 +34,15 @@ module _ {D : Type 0} {d : DiskGhosts D} (g : Ghosts (SqlKeep (FileStore D d))) 
         → IsRunOf given order input s (Ok ending) (g.is_honest new) (g.holds new) (g.after_stop new)
         before after
 
-  -- in a session over what a connection found, at a moment that was given
+module _ {D : Type 0} {d : DiskGhosts D} (g : Ghosts (SqlKeep (FileStore D d)))
+    (start : Image) where
+  -- in a session over what a connection found in these bytes, at a moment that was given
   abbrev pub IsImported : (ℕ → Type 0) → ImportOrder → Option (List ℕ) → Option (List ℕ)
       → Option (List ℕ) → Ending → Type 0
   IsImported given order input before after ending =
-      BeginsSession g (IsImportedOver given order input before after ending)
+      BeginsSession g start (IsImportedOver g given order input before after ending)
 
   abbrev pub IsImportedInParts : (ℕ → Type 0) → ImportOrder → Option (List ℕ) → Option (List ℕ)
       → Option (List ℕ) → Ending → Type 0
   IsImportedInParts given order input before after ending =
-      BeginsSession g (IsImportedInPartsOver given order input before after ending)
+      BeginsSession g start (IsImportedInPartsOver g given order input before after ending)

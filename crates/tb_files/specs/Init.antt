@@ -6,12 +6,16 @@ use Rattle.sqlite.specs.State.{HasCleanDisk}
 use Rattle.sqlite_disk.specs.declared.Disk.{Ghosts as DiskGhosts}
 use Rattle.sqlite_disk.specs.declared.Files.{Files}
 use Rattle.sqlite_store.specs.declared.store.FileStore.{FileStore}
+use Rattle.sqlite_wal.specs.Files.{outcomes}
+use Rattle.sqlite_wal.specs.Reads.{AreClean}
+use Rattle.sqlite_wal.specs.Recovery.{Image}
 use Rattle.tb_calls.specs.declared.keep.Keep.{Ghosts}
 use Rattle.tb_keeper.specs.declared.sql_keep.SqlKeep.{SqlKeep}
 use Rattle.tb_calls.specs.Call.{State}
 use Rattle.tb_files.specs.File.{IsSaved, IsUnsaved}
 use Rattle.tb_files.specs.declared.not_done.NotDone.{NotDone}
 use Rattle.tb_files.specs.declared.not_done.NotDone.TheVariants.{Failed, Untaken}
+use Rattle.tb_headline.specs.Files.{HoldsState}
 use Rattle.tb_headline.specs.Refusals.{IsFilled, IsUnmade}
 use Rattle.tb_headline.specs.Headline.{IsAt}
 use Rattle.tb_keeper.specs.declared.creating.CreateFault.TheVariants as making
@@ -30,12 +34,14 @@ module _ {D : Type 0} {d : DiskGhosts D} where
   IsUnmadeFor found s left other = ⊥
 
 module _ {D : Type 0} {d : DiskGhosts D} (g : Ghosts (SqlKeep (FileStore D d))) where
-  -- a keeper was made over what a connection found, is at the state, and is saved
+  -- A keeper was made over what a connection found, is at the state, and is saved. Whatever a stop leaves of the files then holds the state.
   pub record IsMade (found : Held (FileStore D d)) (s : State) : Type 0 where
     pub keep : SqlKeep (FileStore D d)
     pub at : HasCleanDisk (file_state found) → IsAt s (g.holds keep) (g.after_stop keep)
     pub files : Files D
     pub saved : IsSaved keep.conn files
+    pub holds : HasCleanDisk (file_state found) → AreClean d files.log files.db → (next : Image)
+        → outcomes d files.log files.db next → ∥ HoldsState s next ∥₁
 
   -- it was made, and couldn't be saved
   pub record IsMadeUnsaved (found : Held (FileStore D d)) (s : State) : Type 0 where

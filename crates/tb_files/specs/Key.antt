@@ -2,6 +2,7 @@
 use Rattle.std.specs.Prelude.{◌≡◌, ◌⊎◌, ℕ, true, List, [], ◌∷◌, Option, Some, Result, IfOk, OnErr, OnOk}
 use Rattle.sqlite_disk.specs.declared.Disk.{Ghosts as DiskGhosts}
 use Rattle.sqlite_store.specs.declared.store.FileStore.{FileStore}
+use Rattle.sqlite_wal.specs.Recovery.{Image}
 use Rattle.tb_calls.specs.declared.keep.Keep.{Ghosts}
 use Rattle.tb_keeper.specs.declared.sql_keep.SqlKeep.{SqlKeep}
 use Rattle.tb_calls.specs.Call.{State, reply}
@@ -18,17 +19,6 @@ use Rattle.tb_program.specs.declared.fault.Fault.{Fault}
 use Rattle.tb_values.specs.Appends.{AppendsFront}
 
 module _ {D : Type 0} {d : DiskGhosts D} (g : Ghosts (SqlKeep (FileStore D d))) where
-  -- the key that the order asks for, by whatever bytes the machine drew, at a moment that was given, is given or refused by the one call in a session
-  pub record IsKeyGiven (given : ℕ → Type 0) (order : KeyOrder) (input : Option (List ℕ))
-      (before after : Option (List ℕ)) (ending : Ending) : Type 0 where
-    pub old : SqlKeep (FileStore D d)
-    pub new : SqlKeep (FileStore D d)
-    pub session : IsFileSession g old new
-    pub asked : NewKey
-    pub is_asked : IsAsked (λ key id. Unit {0}) given order input asked
-    pub does : g.is_honest new ≡ true → (s : State) → g.holds old s
-        → IsGiven asked s (g.holds new) before after ending
-
   -- The one call was made in a session, or not, up to a fault: what it did stands, and what is printed is a front of what it gives.
   pub record IsKeyCut (given : ℕ → Type 0) (order : KeyOrder) (input : Option (List ℕ))
       (before after : Option (List ℕ)) (told : Fault) (old : SqlKeep (FileStore D d)) : Type 0 where
@@ -49,11 +39,24 @@ module _ {D : Type 0} {d : DiskGhosts D} (g : Ghosts (SqlKeep (FileStore D d))) 
         → call_in s asked ≡ Some call
         → OnErr end (AppendsFront before after (given_text asked (reply s [] call)))
 
+module _ {D : Type 0} {d : DiskGhosts D} (g : Ghosts (SqlKeep (FileStore D d)))
+    (start : Image) where
+  -- the key that the order asks for, by whatever bytes the machine drew, at a moment that was given, is given or refused by the one call in a session
+  pub record IsKeyGiven (given : ℕ → Type 0) (order : KeyOrder) (input : Option (List ℕ))
+      (before after : Option (List ℕ)) (ending : Ending) : Type 0 where
+    pub old : SqlKeep (FileStore D d)
+    pub new : SqlKeep (FileStore D d)
+    pub session : IsFileSession g start old new
+    pub asked : NewKey
+    pub is_asked : IsAsked (λ key id. Unit {0}) given order input asked
+    pub does : g.is_honest new ≡ true → (s : State) → g.holds old s
+        → IsGiven asked s (g.holds new) before after ending
+
 module _ {D W : Type 0} {d : DiskGhosts D} (g : Ghosts (SqlKeep (FileStore D d)))
-    (contents : W → Option (List ℕ)) where
+    (start : Image) (contents : W → Option (List ℕ)) where
   -- a fault of reading or making a key, and nothing was printed (of the file nothing is said); or the file wasn't opened; or a session began
   abbrev pub IsKeyFailed : (ℕ → Type 0) → KeyOrder → Option (List ℕ) → W → W → Fault → Type 0
   IsKeyFailed given order input before after told =
       ((is_of_new_keys told ≡ true) × (after ≡ before))
-      ⊎ (IsUnbegun g contents before after told
-      ⊎ BeginsSession g (IsKeyCut g given order input (contents before) (contents after) told))
+      ⊎ (IsUnbegun g start contents before after told
+      ⊎ BeginsSession g start (IsKeyCut g given order input (contents before) (contents after) told))

@@ -1,7 +1,9 @@
+pub mod Auditing
 pub mod Check
 pub mod Failed
 pub mod Faults
 pub mod File
+pub mod GivenUp
 pub mod Import
 pub mod Init
 pub mod Key

@@ -9,6 +9,7 @@ ghost use Rattle.tb_files.specs.File.{InSession};
 ghost use Rattle.tb_files.specs.NotDone.{IsNotDone, failure_of};
 ghost use Rattle.tb_orders.specs.Telling.{is_of_answers};
 
+use crate::auditing::print_audit;
 use crate::file::{close_keep, open_desk};
 use crate::not_done::NotDone;
 use sqlite::{Connection, FileStore};
@@ -17,7 +18,7 @@ use std::alloc::Global;
 use std::io::Write;
 use tb_calls::Keep;
 use tb_keeper::SqlKeep;
-use tb_orders::{Ending, OrderFault, fault_of_keep, print_audit};
+use tb_orders::{Ending, OrderFault, fault_of_keep};
 use tb_program::Fault;
 use tb_values::Text;
 

@@ -1,11 +1,13 @@
 //! The file of boards.
 ghost use Rattle.sqlite.specs.Files.{file_state};
-ghost use Rattle.sqlite.specs.State.{HasCleanDisk, Opens};
+ghost use Rattle.sqlite.specs.State.{HasCleanDisk};
+ghost use Rattle.sqlite_wal.specs.Files.{image_at};
 ghost use Rattle.tb_sql_tables.specs.Failing.{IsAtRest};
 ghost use Rattle.std.specs.Io.KnownBytes.{Appends};
 ghost use Rattle.std.specs.Prelude.{◌≡◌, false, IfErr, IfOk, Ok, OnErr, OnOk, true};
 ghost use Rattle.tb_files.specs.Failed.{IsUnopened};
-ghost use Rattle.tb_files.specs.File.{IsBegun, IsSaved, IsUnsaved};
+ghost use Rattle.tb_files.specs.File.{IsBegun, IsFoundIn, IsSaved, IsUnsaved};
+ghost use Rattle.tb_files.specs.GivenUp.{IsGivenUp};
 ghost use Rattle.tb_files.specs.NotDone.{IsUntaken};
 ghost use Rattle.tb_files.specs.Notice.{notice, rest_of_notice};
 ghost use Rattle.tb_orders.specs.Faults.{is_of_files, is_of_opening};
@@ -13,9 +15,10 @@ ghost use Rattle.tb_orders.specs.Items.{fault_alone};
 ghost use Rattle.tb_program.specs.declared.fault.Fault.TheVariants.{Store, WriteFailed};
 ghost use Rattle.tb_values.specs.Appends.{AppendsFront};
 
+use crate::fault::fault_of_opening;
 use crate::not_done::Untaken;
-use sqlite::{Connection, Error, ErrorCode, File, FileStore};
-use sqlite_disk::Disk;
+use sqlite::{Connection, Error, ErrorCode, FileFrom, FileStore};
+use sqlite_disk::{Disk, Start};
 use std::fs;
 use std::io::Write;
 use std::os::unix::fs::OpenOptionsExt;
@@ -23,10 +26,10 @@ use tb_calls::Keep;
 use tb_desk::Desk;
 use tb_headline::session::resume;
 use tb_keeper::SqlKeep;
-use tb_orders::{Ending, OrderFault, fault_of_opening};
+use tb_orders::{Ending, OrderFault};
 use tb_program::{Fault, print_line, print_text};
 use tb_sql::opening::Version;
-use tb_wal::find_log_fault;
+use tb_wal::{MachineBeside, find_log_fault};
 
 /// The mode of a file that its owner alone may read and write.
 const PRIVATE: u32 = 0o600;
@@ -37,59 +40,75 @@ const IS_OF_VERSION_TWO: &str = " is now of version 2";
 /// What became of a file that had no history.
 const HAS_A_HISTORY: &str = " has a history from now on, and programs before this one refuse it";
 
-/// The store of a real file.
-pub type RealFile = FileStore<File>;
+/// The store of a real file that held what `S` says.
+pub type RealFile<S> = FileStore<FileFrom<S>>;
 
 /// Opens the file at a path. One that isn't there isn't made. It isn't opened with a log that belongs to another file or is damaged:
 /// the engine would take the log as it is, and drop what it can't read.
-pub fn open_file(rt: &HostRuntime, path: &str) -> Result<Connection<RealFile>, Fault>
+pub fn open_file<S: Start>(
+    rt: &HostRuntime,
+    path: &str,
+    start: S,
+) -> Result<Connection<RealFile<S>>, Fault>
     ensures fault { IfErr result (λ fault. is_of_files fault ≡ true) }
-    ensures idle { IfOk result (λ conn. conn.in_transaction ≡ false) }
-    ensures opens { IfOk result (λ conn. HasCleanDisk (file_state conn) → Opens (file_state conn)) }
-    ensures rests { IfOk result
-        (λ conn. HasCleanDisk (file_state conn) → IsAtRest (file_state conn)) }
+    ensures found { IfOk result (IsFoundIn (image_at S.Start)) }
 {
     if fs::metadata(rt, path).is_err() {
         return Err(Fault::Store);
     }
     look_at_log(rt, path)?;
-    take_opened(Connection::open(rt, path))
+    match Connection::open_from(rt, path, false, start) {
+        Ok(conn) => take_opened(conn),
+        Err((error, _)) => Err(fault_of(error)),
+    }
 }
 
 /// Opens the file at a path, or makes an empty one with sums of its pages, which its owner alone may read and write.
-pub fn open_new_file(rt: &HostRuntime, path: &str) -> Result<Connection<RealFile>, Fault>
+pub fn open_new_file<S: Start>(
+    rt: &HostRuntime,
+    path: &str,
+    start: S,
+) -> Result<Connection<RealFile<S>>, Fault>
     ensures fault { IfErr result (λ fault. is_of_files fault ≡ true) }
-    ensures idle { IfOk result (λ conn. conn.in_transaction ≡ false) }
-    ensures opens { IfOk result (λ conn. HasCleanDisk (file_state conn) → Opens (file_state conn)) }
-    ensures rests { IfOk result
-        (λ conn. HasCleanDisk (file_state conn) → IsAtRest (file_state conn)) }
+    ensures found { IfOk result (IsFoundIn (image_at S.Start)) }
 {
     look_at_log(rt, path)?;
     make_private(rt, path);
-    take_opened(Connection::open_with_sums(rt, path))
+    match Connection::open_from(rt, path, true, start) {
+        Ok(conn) => take_opened(conn),
+        Err((error, _)) => Err(fault_of(error)),
+    }
 }
 
 fn look_at_log(rt: &HostRuntime, path: &str) -> Result<(), Fault>
     ensures { IfErr result (λ fault. is_of_files fault ≡ true) }
 {
-    match find_log_fault(rt, path) {
+    match find_log_fault(&MachineBeside::new(rt, path)) {
         Ok(None) => Ok(()),
         Ok(Some(_)) => Err(Fault::Store),
         Err(_) => Err(Fault::Memory),
     }
 }
 
-/// A connection, or why there is none.
-fn take_opened(opened: Result<Connection<RealFile>, Error>) -> Result<Connection<RealFile>, Fault>
+/// A connection that was opened, in which no transaction is open.
+fn take_opened<S: Start>(conn: Connection<RealFile<S>>) -> Result<Connection<RealFile<S>>, Fault>
     ensures fault { IfErr result (λ fault. is_of_files fault ≡ true) }
-    ensures idle { IfOk result (λ conn. conn.in_transaction ≡ false) }
-    ensures same { IfOk result (λ conn. opened ≡ Ok conn) }
+    ensures same { IfOk result (λ taken. (taken ≡ conn) × (conn.in_transaction ≡ false)) }
 {
-    match opened {
-        Ok(conn) if conn.is_autocommit() => Ok(conn),
-        Ok(_) => Err(Fault::Store), // Never: no transaction is open in a new connection.
-        Err(Error::SqliteFailure(ErrorCode::OutOfMemory)) => Err(Fault::Memory),
-        Err(_) => Err(Fault::Store),
+    if conn.is_autocommit() {
+        Ok(conn)
+    } else {
+        Err(Fault::Store) // Never: no transaction is open in a new connection.
+    }
+}
+
+/// Why there is no connection.
+fn fault_of(error: Error) -> Fault
+    ensures { is_of_files result ≡ true }
+{
+    match error {
+        Error::SqliteFailure(ErrorCode::OutOfMemory) => Fault::Memory,
+        _ => Fault::Store,
     }
 }
 
@@ -116,13 +135,18 @@ pub fn open_desk<D: Disk + Drop>(
 
 /// Opens the file at a path, and begins a session over the boards in it.
 #[tactic(auto, using(crate::proofs::Faults::of_files))]
-pub(crate) fn begin(rt: &HostRuntime, path: &str) -> Result<Desk<SqlKeep<RealFile>>, Fault>
-    ensures begun { IfOk result
-        (λ desk. (found : _) × IsBegun ⟦<SqlKeep<RealFile> as Keep>⟧ found desk) }
-    ensures unopened { IfErr result (IsUnopened ⟦<SqlKeep<RealFile> as Keep>⟧) }
+pub(crate) fn begin<S: Start>(
+    rt: &HostRuntime,
+    path: &str,
+    start: S,
+) -> Result<Desk<SqlKeep<RealFile<S>>>, Fault>
+    ensures begun { IfOk result (λ desk. (found : _) × IsFoundIn (image_at S.Start) found
+        × IsBegun ⟦<SqlKeep<RealFile<S>> as Keep>⟧ found desk) }
+    ensures unopened { IfErr result
+        (IsUnopened ⟦<SqlKeep<RealFile<S>> as Keep>⟧ (image_at S.Start)) }
     ensures fault { IfErr result (λ fault. is_of_opening fault ≡ true) }
 {
-    match open_file(rt, path) {
+    match open_file(rt, path, start) {
         Ok(conn) => match open_desk(rt, path, conn) {
             Ok(desk) => Ok(desk),
             Err(untaken) => Err(untaken.fault),
@@ -184,6 +208,13 @@ pub fn close_desk<D: Disk + Drop>(desk: Desk<SqlKeep<FileStore<D>>>) -> Result<(
     ensures fault { IfErr result (λ fault. fault ≡ Store) }
 {
     close_keep(desk.into_keep())
+}
+
+/// Gives a session up: what isn't committed is rolled back, and the last commits stay in the log.
+pub fn give_up_desk<D: Disk + Drop>(desk: Desk<SqlKeep<FileStore<D>>>) -> FileStore<D>
+    ensures { IsGivenUp desk.conn result }
+{
+    desk.into_keep().close().into_store()
 }
 
 /// Ends a session in which an order ended so.

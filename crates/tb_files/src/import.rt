@@ -1,5 +1,6 @@
 //! Imports of an input into the boards of a file.
 ghost use Rattle.std.specs.Prelude.{◌≡◌, ◌∷◌, [], IfErr, IfOk, IfSome, None, false, true};
+ghost use Rattle.sqlite_wal.specs.Files.{image_at};
 ghost use Rattle.tb_files.specs.Failed.{IsImportCut, IsImportFailed, IsRunCut, IsRunFailed, may_print, may_print_parts};
 ghost use Rattle.tb_files.specs.Faults.{is_of_imports};
 ghost use Rattle.tb_files.specs.Import.{IsImported, IsImportedInParts, IsImportedInPartsOver, IsImportedOver};
@@ -10,7 +11,7 @@ ghost use Rattle.tb_script.specs.Watching.{IsSpent};
 
 use crate::file::{RealFile, begin, close_after};
 use sqlite::FileStore;
-use sqlite_disk::Disk;
+use sqlite_disk::{Disk, Start};
 use std::io::{IsTerminal, Read, Write};
 use tb_calls::Keep;
 use tb_command_line::ImportOrder;
@@ -22,17 +23,18 @@ use tb_script::Watched;
 
 /// Imports an input by one call.
 #[tactic(auto, using(crate::proofs::Faults::of_opening))]
-pub fn import_into_file<R: Read + Drop, C: Clock, W: Write>(
+pub fn import_into_file<S: Start, R: Read + Drop, C: Clock, W: Write>(
     rt: &HostRuntime,
     order: &ImportOrder,
     reader: R,
     clock: &mut C,
     writer: &mut W,
+    start: S,
 ) -> Result<Ending, OrderFault>
-    ensures imported { IfOk result (IsImported ⟦<SqlKeep<RealFile> as Keep>⟧
+    ensures imported { IfOk result (IsImported ⟦<SqlKeep<RealFile<S>> as Keep>⟧ (image_at S.Start)
         (GaveOne C.gives clock.old clock.new)
         order.now (R.remaining reader) (W.contents writer.old) (W.contents writer.new)) }
-    ensures failed { IfErr result (λ failed. IsImportFailed ⟦<SqlKeep<RealFile> as Keep>⟧ W.contents
+    ensures failed { IfErr result (λ failed. IsImportFailed ⟦<SqlKeep<RealFile<S>> as Keep>⟧ (image_at S.Start) W.contents
         (GaveOne C.gives clock.old clock.new) order.now (R.remaining reader)
         writer.old writer.new failed.fault) }
     ensures silent { IfErr result
@@ -44,7 +46,7 @@ pub fn import_into_file<R: Read + Drop, C: Clock, W: Write>(
     ensures fault { IfErr result (λ failed. is_of_imports failed.fault ≡ true) }
 {
     let mut reader = Watched::new(reader);
-    match begin(rt, order.file.as_str()) {
+    match begin(rt, order.file.as_str(), start) {
         Ok(desk) => import_over(rt, desk, order, &mut reader, clock, writer),
         Err(fault) => Err(OrderFault { fault, item: None }),
     }
@@ -86,17 +88,18 @@ fn import_over<D: Disk + Drop, R: Read + Drop, C: Clock, W: Write>(
 
 /// Imports an input in as many parts as its text takes.
 #[tactic(auto, using(crate::proofs::Faults::of_opening))]
-pub fn import_parts_into_file<R: Read + Drop, C: Clock, W: Write>(
+pub fn import_parts_into_file<S: Start, R: Read + Drop, C: Clock, W: Write>(
     rt: &HostRuntime,
     order: &ImportOrder,
     reader: R,
     clock: &mut C,
     writer: &mut W,
+    start: S,
 ) -> Result<Ending, OrderFault>
-    ensures imported { IfOk result (IsImportedInParts ⟦<SqlKeep<RealFile> as Keep>⟧
+    ensures imported { IfOk result (IsImportedInParts ⟦<SqlKeep<RealFile<S>> as Keep>⟧ (image_at S.Start)
         (GaveOne C.gives clock.old clock.new)
         order.now (R.remaining reader) (W.contents writer.old) (W.contents writer.new)) }
-    ensures failed { IfErr result (λ failed. IsRunFailed ⟦<SqlKeep<RealFile> as Keep>⟧ W.contents
+    ensures failed { IfErr result (λ failed. IsRunFailed ⟦<SqlKeep<RealFile<S>> as Keep>⟧ (image_at S.Start) W.contents
         (GaveOne C.gives clock.old clock.new) order.now (R.remaining reader)
         writer.old writer.new failed.fault) }
     ensures silent { IfErr result
@@ -108,7 +111,7 @@ pub fn import_parts_into_file<R: Read + Drop, C: Clock, W: Write>(
     ensures fault { IfErr result (λ failed. is_of_imports failed.fault ≡ true) }
 {
     let mut reader = Watched::new(reader);
-    match begin(rt, order.file.as_str()) {
+    match begin(rt, order.file.as_str(), start) {
         Ok(desk) => import_parts_over(rt, desk, order, &mut reader, clock, writer),
         Err(fault) => Err(OrderFault { fault, item: None }),
     }

@@ -8,6 +8,7 @@ ghost use Rattle.tb_files.specs.Init.{IsMade, IsNotMade};
 ghost use Rattle.tb_files.specs.NotDone.{failure_of};
 ghost use Rattle.tb_orders.specs.Faults.{is_of_making};
 
+use crate::fault::fault_of_making;
 use crate::file::close_desk;
 use crate::not_done::{NotDone, Untaken};
 use sqlite::{Connection, FileStore};
@@ -17,7 +18,7 @@ use tb_calls::Keep;
 use tb_command_line::InitOrder;
 use tb_headline::session::make;
 use tb_keeper::SqlKeep;
-use tb_orders::{Ending, OrderFault, fault_of_making};
+use tb_orders::{Ending, OrderFault};
 
 /// Makes the tables of a file with one person, who owns its first board.
 pub fn make_file<D: Disk + Drop>(

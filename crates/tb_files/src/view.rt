@@ -10,6 +10,7 @@ ghost use Rattle.tb_files.specs.View.{IsCutShort, IsShown};
 ghost use Rattle.tb_orders.specs.Moments.{GaveOne};
 ghost use Rattle.tb_program.specs.declared.fault.Fault.TheVariants.{NoClock, WriteFailed};
 
+use crate::exporting::print_stored_view;
 use crate::file::{close_desk, open_desk};
 use crate::not_done::NotDone;
 use sqlite::{Connection, FileStore};
@@ -20,7 +21,7 @@ use tb_calls::Keep;
 use tb_command_line::ViewOrder;
 use tb_desk::Desk;
 use tb_keeper::SqlKeep;
-use tb_orders::{Ending, OrderFault, print_stored_view};
+use tb_orders::{Ending, OrderFault};
 use tb_program::{Clock, Fault};
 
 /// Prints a view of a board at the moment that the clock gives, from the file that a connection was opened to.

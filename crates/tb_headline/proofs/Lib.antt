@@ -9,3 +9,4 @@ mod Stopped
 mod InTurn
 mod InLine
 mod Texts
+mod FilesInTurn

@@ -1,3 +1,4 @@
 pub mod Headline
 pub mod ImportAgain
 pub mod Refusals
+pub mod Files

@@ -1,5 +1,6 @@
 //! Laws over whole runs.
 
+ghost use Rattle.tb_headline.specs.Files.{HeadlineOfFiles};
 ghost use Rattle.tb_headline.specs.Headline.{HeadlineOfConnections, StopsJoin, TellsReplies, Headline, LivesOn, RestIsFree};
 ghost use Rattle.tb_headline.specs.ImportAgain.{ImportJsonAgain};
 
@@ -21,6 +22,12 @@ pub fn headline_of_connections()
     ensures headline { HeadlineOfConnections }
     ensures join { StopsJoin }
     ensures told { TellsReplies }
+{}
+
+/// The same of the bytes of a file and its log: runs of the server, each of which begins with bytes that a stop of the one before may have
+/// left, leave what the list of their calls leaves that is handled once, and each answer is that of the list.
+pub fn headline_of_files()
+    ensures { HeadlineOfFiles }
 {}
 
 /// An import of the task format that comes again right after itself changes nothing, and says so.

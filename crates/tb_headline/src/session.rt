@@ -37,6 +37,7 @@ pub fn make<S: Alter>(
     ensures begun { IfOk result (λ desk. IsAtRest (state S.Store conn)
         → IsAt (opening name.now key.now) (⟦<SqlKeep<S> as Keep>⟧.holds desk)
         (⟦<SqlKeep<S> as Keep>⟧.after_stop desk)) }
+    ensures fresh { IfOk result (λ desk. desk.failed ≡ false) }
     ensures filled { IsFilled (state S.Store conn)
         → MatchResult result (λ desk. ⊥) (λ e. (e.0 ≡ conn) × (e.1 ≡ CreateFault.NotEmpty)) }
     ensures unmade { IfErr result (λ e. IsUnmade S.Store (opening name.now key.now) conn e.0 e.1) }

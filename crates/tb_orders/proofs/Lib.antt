@@ -1,6 +1,4 @@
 pub mod Doing
-pub mod Exported
-pub mod Given
 pub mod Halves
 pub mod Inputs
 pub mod Items

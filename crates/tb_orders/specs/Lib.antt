@@ -1,4 +1,3 @@
-pub mod Auditing
 pub mod Cutting
 pub mod Doing
 pub mod Faults

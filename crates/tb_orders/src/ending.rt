@@ -14,7 +14,7 @@ pub enum Ending {
     Refused,
 }
 
-pub(crate) fn ending_of(reply: &Reply) -> Ending
+pub fn ending_of(reply: &Reply) -> Ending
     ensures { result ≡ ending_of reply.now }
 {
     if reply.number == 0 {

@@ -45,7 +45,7 @@ pub fn print_view<K: Keep, W: Write>(
     }
 }
 
-pub(crate) fn print_shown<W: Write>(writer: &mut W, reply: &Reply) -> Result<Ending, Fault>
+pub fn print_shown<W: Write>(writer: &mut W, reply: &Reply) -> Result<Ending, Fault>
     ensures told { OnOk result
         (Appends (W.contents writer.old) (W.contents writer.new) (view_text reply.now)) }
     ensures front { OnErr result
@@ -71,7 +71,7 @@ fn print_body<W: Write>(writer: &mut W, reply: &Reply) -> Result<(), Fault>
     }
 }
 
-pub(crate) fn view_of(order: &ViewOrder) -> View
+pub fn view_of(order: &ViewOrder) -> View
     ensures { result ≡ view_of order.now }
 {
     match order.kind {

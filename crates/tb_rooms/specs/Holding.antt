@@ -6,7 +6,7 @@ use Rattle.tb_rooms.specs.declared.holding.Rooms.{Rooms}
 use Rattle.tb_rooms.specs.declared.holding.TheConstants.{HELD_ALWAYS, STRANGER}
 use Rattle.tb_rooms.specs.declared.holding.Whose.{Whose}
 use Rattle.tb_rooms.specs.declared.holding.Whose.TheVariants.{All, Persons, Of}
-use Rattle.tb_timeouts.specs.Stage.{begun_at}
+use Rattle.tb_timeouts.specs.Stage.{begun_at, idle_since}
 use Rattle.tb_timeouts.specs.declared.limits.TheConstants.{CONNECTIONS}
 use Rattle.tb_timeouts.specs.declared.stage.Stage.{Stage}
 use Rattle.tb_timeouts.specs.declared.stage.Stage.TheVariants.{Vacant}
@@ -35,10 +35,15 @@ fresh_hold stage = record {
   out = 0;
   round = 0;
   millis = 0;
+  is_fresh = true;
 }
 
 abbrev pub vacant_hold : Hold
 vacant_hold = fresh_hold Vacant
+
+abbrev pub is_same : Option ℕ → Option ℕ → Bool
+is_same (Some one) (Some other) = one == other
+is_same _ _ = false
 
 -- a message keeps its room until it is answered, and an answer counts in full until all of it is taken
 abbrev pub after_turn : ℕ → Stage → ℕ → ℕ → Hold → Hold
@@ -48,6 +53,7 @@ after_turn owner stage wanted unsent hold = record hold {
   wanted = wanted;
   room = if wanted == 0 then 0 else hold.room;
   out = if unsent == 0 then 0 else max hold.out unsent;
+  is_fresh = hold.is_fresh && is_same (idle_since hold.stage) (idle_since stage);
 }
 
 -- ---- messages

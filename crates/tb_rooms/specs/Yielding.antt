@@ -8,7 +8,7 @@ use Rattle.tb_rooms.specs.declared.holding.TheConstants.{STRANGER}
 use Rattle.tb_rooms.specs.declared.holding.Whose.{Whose}
 use Rattle.tb_rooms.specs.declared.holding.Whose.TheVariants.{All, Of}
 use Rattle.tb_rooms.specs.declared.yielding.Doing.{Doing}
-use Rattle.tb_rooms.specs.declared.yielding.Doing.TheVariants.{Idling, Queueing, Sending, Filling, Taking, TakingMuch}
+use Rattle.tb_rooms.specs.declared.yielding.Doing.TheVariants.{Coming, Idling, Queueing, Sending, Filling, Taking, TakingMuch}
 use Rattle.tb_rooms.specs.declared.yielding.TheConstants.{ALWAYS}
 use Rattle.tb_timeouts.specs.Stage.{begun_at, idle_since, taken_at, waiting_since}
 use Rattle.tb_timeouts.specs.declared.limits.Limits.{Limits}
@@ -17,7 +17,8 @@ use Rattle.tb_timeouts.specs.declared.limits.Limits.{Limits}
 
 -- since when a place does this, if it does
 abbrev pub since : Doing → Rooms → Hold → Option ℕ
-since Idling rooms hold = idle_since hold.stage
+since Coming rooms hold = if hold.is_fresh then idle_since hold.stage else None
+since Idling rooms hold = if hold.is_fresh then None else idle_since hold.stage
 since Queueing rooms hold =
     if lacks_room rooms hold then begun_at hold.stage else waiting_since hold.stage
 since Sending rooms hold = begun_at hold.stage
@@ -82,11 +83,13 @@ crowd_in rooms holds =
     else All
 
 -- Rule: of 512 connections the longest idle one is closed first. Tried by crowd.sh.
+-- Rule: a new connection has a second to begin its first message, before it is closed for others. Tried by crowd.sh.
 abbrev pub gives_way : Rooms → Limits → ℕ → List Hold → Option ℕ
 gives_way rooms limits now holds =
     let whose = crowd_in rooms holds in
-    either (either (longest Idling whose rooms ALWAYS holds)
-    (longest Queueing whose rooms ALWAYS holds))
+    either (either (longest Coming whose rooms (now - rooms.silent) holds)
+    (either (longest Idling whose rooms ALWAYS holds)
+    (longest Queueing whose rooms ALWAYS holds)))
     (either (longest Sending whose rooms (now - limits.spared) holds)
     (longest Taking whose rooms (now - rooms.spared) holds))
 

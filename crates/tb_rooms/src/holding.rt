@@ -1,6 +1,6 @@
 //! What each place holds of memory, and who may hold more.
 ghost use Rattle.std.specs.Prelude.{◌≡◌, ◌+◌, ◌-◌, ◌^◌, min};
-ghost use Rattle.tb_rooms.specs.Holding.{after_turn, fresh_hold, vacant_hold, are_before, begun_sooner, fits, goes_before, has, has_turned, has_turns_left, is_let_in, lacks_room, may_turn, most_held, millis_if, millis_in, out_if, out_in, room_if, room_in, turn_if, turns_in};
+ghost use Rattle.tb_rooms.specs.Holding.{after_turn, fresh_hold, vacant_hold, are_before, begun_sooner, fits, goes_before, has, has_turned, has_turns_left, is_let_in, is_same, lacks_room, may_turn, most_held, millis_if, millis_in, out_if, out_in, room_if, room_in, turn_if, turns_in};
 
 use tb_timeouts::{CONNECTIONS, Stage};
 
@@ -27,6 +27,8 @@ pub struct Hold {
     pub round: u64,
     /// How many milliseconds that turn took.
     pub millis: u64,
+    /// Its connection hasn't sent anything yet.
+    pub is_fresh: bool,
 }
 
 impl Hold {
@@ -49,6 +51,7 @@ impl Hold {
             out: 0,
             round: 0,
             millis: 0,
+            is_fresh: true,
         }
     }
 
@@ -64,7 +67,17 @@ impl Hold {
             out: if unsent == 0 { 0 } else { self.out.max(unsent) },
             round: self.round,
             millis: self.millis,
+            is_fresh: self.is_fresh && is_same(self.stage.idle_since(), stage.idle_since()),
         }
+    }
+}
+
+fn is_same(one: Option<u128>, other: Option<u128>) -> bool
+    ensures { result ≡ is_same one other }
+{
+    match (one, other) {
+        (Some(one), Some(other)) => one == other,
+        _ => false,
     }
 }
 
@@ -84,6 +97,8 @@ pub struct Rooms {
     pub most_answers: usize,
     /// How long an answer that is in the way is spared where no part of it is taken.
     pub spared: u64,
+    /// How long a connection is spared that hasn't sent anything yet.
+    pub silent: u64,
     /// How many places one may have before they give way first.
     pub places: usize,
     /// How many turns a person has in a round, and after how long no further ones.
@@ -101,6 +116,7 @@ pub const ROOMS: Rooms = Rooms {
     answers: 67_108_864,
     most_answers: 134_217_728,
     spared: 1_000,
+    silent: 1_000,
     places: 8,
     turns: 8,
     millis: 5,

@@ -11,6 +11,8 @@ const ALWAYS: u128 = u128::MAX;
 /// What a place may be doing.
 #[derive(Clone, Copy)]
 pub(crate) enum Doing {
+    /// It came, and hasn't sent anything yet.
+    Coming,
     /// It is between two messages.
     Idling,
     /// Its message waits for room, or to be answered.
@@ -30,6 +32,9 @@ fn since(hold: &Hold, doing: Doing, rooms: &Rooms) -> Option<u128>
     ensures { result ≡ since doing rooms.now hold.now }
 {
     match doing {
+        Doing::Coming if hold.is_fresh => hold.stage.idle_since(),
+        Doing::Coming => None,
+        Doing::Idling if hold.is_fresh => None,
         Doing::Idling => hold.stage.idle_since(),
         Doing::Queueing if hold.lacks_room(rooms) => hold.stage.begun_at(),
         Doing::Queueing => hold.stage.waiting_since(),
@@ -164,20 +169,26 @@ fn crowd_in(holds: &[Hold], rooms: &Rooms) -> Whose
     }
 }
 
-/// The place that is given to another connection, where all are taken. Of the owner that has the most places it is the one that is
-/// between two messages longest, else the one that waits longest, else the one whose message was begun longest ago, if it isn't spared
-/// any more, else the one whose answer was taken least recently.
+/// The place that is given to another connection, where all are taken. Of the owner that has the most places it is the one that came
+/// longest ago and hasn't sent anything, if it isn't spared any more, else the one that is between two messages longest, else the one
+/// that waits longest, else the one whose message was begun longest ago, if it isn't spared any more, else the one whose answer was
+/// taken least recently.
 pub fn gives_way(holds: &[Hold], rooms: &Rooms, limits: &Limits, now: u64) -> Option<usize>
     ensures { result ≡ gives_way rooms.now limits.now now holds.now }
 {
     let whose = crowd_in(holds, rooms);
+    let came = before(now, rooms.silent);
+    let coming = longest(holds, Doing::Coming, whose, rooms, came);
     let idling = longest(holds, Doing::Idling, whose, rooms, ALWAYS);
     let queueing = longest(holds, Doing::Queueing, whose, rooms, ALWAYS);
     let begun = before(now, limits.spared);
     let sending = longest(holds, Doing::Sending, whose, rooms, begun);
     let taken = before(now, rooms.spared);
     let taking = longest(holds, Doing::Taking, whose, rooms, taken);
-    either(either(idling, queueing), either(sending, taking))
+    either(
+        either(coming, either(idling, queueing)),
+        either(sending, taking),
+    )
 }
 
 // ---- room for the message of a stranger

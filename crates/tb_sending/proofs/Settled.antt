@@ -1,5 +1,5 @@
 -- An order that isn't sent, behind a change that was settled.
-use Rattle.std.proofs.Common.{◌≡◌, ℕ, List, Option, Result, Ok, Err, IfErr, inl, subst}
+use Rattle.std.proofs.Common.{◌≡◌, List, Option, Result, Ok, Err, IfErr, inl, subst}
 use Rattle.tb_client.specs.Asking.{Event}
 use Rattle.tb_client.specs.Request.{Text}
 use Rattle.tb_command_line.specs.declared.order.SendOrder.{SendOrder}

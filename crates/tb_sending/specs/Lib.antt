@@ -2,6 +2,7 @@ pub mod Beside
 pub mod Changing
 pub mod Drawing
 pub mod Faults
+pub mod Folder
 pub mod Key
 pub mod Lines
 pub mod Places

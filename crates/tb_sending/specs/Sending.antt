@@ -1,5 +1,5 @@
 -- What a call or a view that is sent comes to, or why it comes to nothing.
-use Rattle.std.specs.Prelude.{◌==◌, ◌≡◌, ◌⊎◌, ℕ, Bool, true, false, nat_lt, List, [], ◌∷◌, length, Option, Some, None}
+use Rattle.std.specs.Prelude.{◌==◌, ◌≡◌, ◌⊎◌, ℕ, Bool, true, false, nat_lt, List, length, Option, Some, None}
 use Rattle.std.specs.Io.KnownBytes.{Appends}
 use Rattle.tb_client.specs.Asking.{Event, IsAnswered, IsLate, IsSentOut}
 use Rattle.tb_client.specs.Request.{Text, message_of, request_of}

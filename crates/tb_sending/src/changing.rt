@@ -2,8 +2,10 @@
 ghost use Rattle.std.specs.Prelude.{◌≡◌, IfErr, IfOk, true};
 ghost use Rattle.tb_sending.specs.Changing.{IsAsked, IsEnded, change_order, changed_body, is_changed, is_unknown};
 ghost use Rattle.tb_sending.specs.Faults.{is_of_sending};
+ghost use Rattle.tb_sending.specs.Folder.{IsKept};
 
 use crate::beside::Begun;
+use crate::folder::Folder;
 use crate::identifier::new_id;
 use crate::printing::ACCEPTED;
 use crate::sending::ask_words;
@@ -21,14 +23,17 @@ const UNKNOWN: u16 = 401;
 
 /// Asks for a change that was begun, under the old key. Where the server doesn't know that one, the change may have been made: then it is
 /// asked, by a change of the new key to itself, whether it knows the new one. What it answers last says whether the change was made.
-pub(crate) fn change_key<L: Line, G: Chance>(
+/// The folder keeps the new key before: else an order that is cut off here would lose it.
+pub(crate) fn change_key<F: Folder, L: Line, G: Chance>(
     rt: &HostRuntime,
     order: &SendOrder,
+    _folder: &F,
     key: &Key,
     begun: &Begun,
     line: &mut L,
     chance: &mut G,
 ) -> Result<Reply, Fault>
+    requires kept { IsKept F.has _folder.now order.now begun.now }
     ensures ended { IfOk result
         (IsEnded L.follows order.now key.now begun.now line.old line.new) }
     ensures fault { IfErr result (λ fault. is_of_sending fault ≡ true) }

@@ -2,7 +2,7 @@
 ghost use Rattle.std.specs.Prelude.{◌≡◌, IfNone, IfOk, IfSome, None};
 ghost use Rattle.tb_sending.specs.Key.{IsKeyOf};
 
-use crate::key_folder::KeyFolder;
+use crate::machine_folder::KeyFolder;
 use std::alloc::AllocError;
 use std::env;
 use tb_board::Key;

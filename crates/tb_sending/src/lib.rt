@@ -6,9 +6,10 @@
 mod beside;
 mod changing;
 mod dial;
+mod folder;
 mod identifier;
 mod key;
-mod key_folder;
+mod machine_folder;
 mod places;
 mod printing;
 mod sending;
@@ -16,7 +17,8 @@ mod server_line;
 mod settling;
 
 pub use dial::{Dial, MachineDial};
+pub use folder::{Folder, key_in_file};
 pub use identifier::{name_call, new_id};
-pub use key_folder::{KeyFolder, key_in_file, path_at_home, private_text};
+pub use machine_folder::{KeyFolder, path_at_home, private_text};
 pub use sending::send_order;
 pub use server_line::ServerLine;

@@ -5,12 +5,13 @@ ghost use Rattle.tb_orders.specs.declared.ending.Ending.TheVariants.{Accepted};
 ghost use Rattle.tb_sending.specs.Beside.{IsNewChange, new_change};
 ghost use Rattle.tb_sending.specs.Changing.{EndsBefore, IsSettled, IsUnsettled, asks_for_key, changed_body};
 ghost use Rattle.tb_sending.specs.Faults.{is_of_sending};
+ghost use Rattle.tb_sending.specs.Folder.{IsKept, IsUnbegun, new_name};
 
 use crate::beside::{Begun, Step, step_of};
 use crate::changing::{change_key, changed_body, is_changed, is_unknown};
+use crate::folder::{Folder, beside_in, forget, has_no_change, keep, key_in, put_in_place};
 use crate::identifier::new_id;
 use crate::key::folder_of;
-use crate::key_folder::KeyFolder;
 use crate::printing::print_refusal;
 use std::alloc::{AllocError, Global};
 use std::io::Write;
@@ -44,45 +45,66 @@ pub(crate) fn settle<L: Line, G: Chance, W: Write>(
         (IsUnsettled W.contents writer.old writer.new) }
     ensures fault { IfErr result (λ fault. is_of_sending fault ≡ true) }
 {
+    match folder_of(rt, order) {
+        Some(mut folder) => settle_in(rt, order, &mut folder, line, chance, writer),
+        None if asks_for_key(order) => Err(Fault::NoKey),
+        None => Ok(None),
+    }
+}
+
+/// The same over the folder of the key file. The order is sent only where no change of its own is begun there.
+fn settle_in<F: Folder, L: Line, G: Chance, W: Write>(
+    rt: &HostRuntime,
+    order: &SendOrder,
+    folder: &mut F,
+    line: &mut L,
+    chance: &mut G,
+    writer: &mut W,
+) -> Result<Option<Ending>, Fault>
+    ensures unbegun { IfOk result
+        (λ end. IfNone end (IsUnbegun F.has F.lacks folder.new order.now)) }
+    ensures settled { IfOk result
+        (λ end. IfNone end (IsSettled L.follows order.now line.old line.new)) }
+    ensures still { IfOk result (λ end. IfNone end (writer.new ≡ writer.old)) }
+    ensures ended { IfOk result (λ end. IfSome end (EndsBefore L.follows W.contents order.now
+        line.old line.new writer.old writer.new)) }
+    ensures unsettled { IfErr result
+        (IsUnsettled W.contents writer.old writer.new) }
+    ensures fault { IfErr result (λ fault. is_of_sending fault ≡ true) }
+{
     let is_change = asks_for_key(order);
-    let Some(folder) = folder_of(rt, order) else {
-        return if is_change {
-            Err(Fault::NoKey)
-        } else {
-            Ok(None)
-        };
-    };
-    if !is_change && !folder.has_change() {
+    if !is_change && has_no_change(folder) {
         return Ok(None);
     }
-    let _held = folder.hold();
-    let Some(key) = folder.key()? else {
+    folder.hold();
+    let Some(key) = key_in(rt.alloc(), folder)? else {
         return Err(Fault::NoKey);
     };
-    let beside = folder.beside(order)?;
+    let beside = beside_in(rt.alloc(), folder, order)?;
     match step_of(is_change, &key, beside) {
         Step::Send => Ok(None),
         Step::Stop => Err(Fault::Store),
         Step::Begin => {
-            let begun = begin(rt, order, &key, &folder, chance)?;
-            finish(rt, order, &folder, &key, &begun, line, chance, writer)
+            let begun = begin(rt, order, &key, folder, chance)?;
+            finish(rt, order, folder, &key, &begun, line, chance, writer)
         }
-        Step::Finish(begun) => finish(rt, order, &folder, &key, &begun, line, chance, writer),
+        Step::Finish(begun) => finish(rt, order, folder, &key, &begun, line, chance, writer),
         Step::Tidy => {
-            folder.tidy()?;
+            forget(folder)?;
             end_changed(rt, order, writer)
         }
     }
 }
 
 /// Makes a new key, and keeps its change beside the key file before it is sent.
-fn begin<G: Chance>(
+fn begin<F: Folder, G: Chance>(
     rt: &HostRuntime,
     order: &SendOrder,
     key: &Key,
-    folder: &KeyFolder<'_>,
+    folder: &mut F,
     chance: &mut G,
 ) -> Result<Begun, Fault>
+    ensures kept { IfOk result (λ begun. IsKept F.has folder.new order.now begun) }
     ensures begun { IfOk result (IsNewChange G.gives chance.old chance.new order.now key.now) }
     ensures fault { IfErr result (λ fault. is_of_sending fault ≡ true) }
 {
@@ -92,7 +114,7 @@ fn begin<G: Chance>(
     let Some(begun) = new_change(rt.alloc(), id, random, key)? else {
         return Err(Fault::ReadFailed); // Never: the machine's random bytes made the old key again.
     };
-    folder.keep(order, &begun)?;
+    keep(rt.alloc(), folder, order, &begun)?;
     Ok(begun)
 }
 
@@ -117,16 +139,18 @@ fn new_change(
 
 /// Sends a change that was begun, and moves the new key into place where it is accepted; then the order is to be sent, unless it asked
 /// for the change. A refusal ends the order, and leaves both files.
-fn finish<L: Line, G: Chance, W: Write>(
+fn finish<F: Folder, L: Line, G: Chance, W: Write>(
     rt: &HostRuntime,
     order: &SendOrder,
-    folder: &KeyFolder<'_>,
+    folder: &mut F,
     key: &Key,
     begun: &Begun,
     line: &mut L,
     chance: &mut G,
     writer: &mut W,
 ) -> Result<Option<Ending>, Fault>
+    requires kept { IsKept F.has folder.old order.now begun.now }
+    ensures forgotten { IfOk result (λ end. IfNone end (F.lacks folder.new new_name)) }
     ensures settled { IfOk result
         (λ end. IfNone end (IsSettled L.follows order.now line.old line.new)) }
     ensures still { IfOk result (λ end. IfNone end (writer.new ≡ writer.old)) }
@@ -136,9 +160,9 @@ fn finish<L: Line, G: Chance, W: Write>(
         (IsUnsettled W.contents writer.old writer.new) }
     ensures fault { IfErr result (λ fault. is_of_sending fault ≡ true) }
 {
-    let reply = change_key(rt, order, key, begun, line, chance)?;
+    let reply = change_key(rt, order, &*folder, key, begun, line, chance)?;
     if is_changed(rt.alloc(), &order.member, &reply)? {
-        folder.put_in_place(order, begun, &reply)?;
+        put_in_place(rt.alloc(), folder, order, begun, &reply)?;
         end_changed(rt, order, writer)
     } else {
         let _ = print_line(&mut rt.stderr(), refusal_text(&reply));

@@ -1,6 +1,5 @@
 -- Files stand behind routes.
-use Rattle.std.proofs.Common.{◌≡◌, Bool, true, false, ◌&&◌, Option, Some, None, Result, Ok, Err, refl, sym}
-use Rattle.tb_http.specs.declared.message.Message.{Message}
+use Rattle.std.proofs.Common.{◌≡◌, Bool, true, false, ◌&&◌, Option, Some, None, Result, Ok, Err, refl}
 use Rattle.tb_http.specs.declared.resource.Resource.{Resource}
 use Rattle.tb_http.specs.declared.resource.RouteFault.{RouteFault}
 use Rattle.tb_http.specs.declared.resource.RouteFault.TheVariants.{NoRoute, NoMethod}

@@ -1,5 +1,5 @@
 -- The page of the files of a folder.
-use Rattle.std.specs.Prelude.{◌≡◌, ℕ, ◌-◌, ◌==◌, Bool, true, false, ◌&&◌, ◌||◌, if◌then◌else◌, List, [], ◌∷◌, ◌++◌, codes, length, nat_eq, nat_le, nat_lt, Option, Some, None, is_some, Result, Ok, Err}
+use Rattle.std.specs.Prelude.{◌≡◌, ℕ, ◌+◌, ◌-◌, ◌==◌, Bool, true, false, not, ◌&&◌, ◌||◌, if◌then◌else◌, List, [], ◌∷◌, ◌++◌, codes, drop, length, nat_eq, nat_le, nat_lt, position, take, Option, Some, None, is_some, Result, Ok, Err}
 use Rattle.std.specs.List.{ends_with, list_all}
 use Rattle.tb_values.specs.Outcome.{Gives, ◌>>=◌}
 use Rattle.tb_http.specs.declared.answer.MediaType.{MediaType}
@@ -9,15 +9,36 @@ use Rattle.tb_site.specs.declared.fault.PageFault.TheVariants.{TooManyFiles, Too
 use Rattle.tb_site.specs.declared.page.Draft.{Draft}
 use Rattle.tb_site.specs.declared.page.FoundFile.{FoundFile}
 use Rattle.tb_site.specs.declared.site.Site.{Site}
-use Rattle.tb_site.specs.declared.site.SiteFile.{SiteFile}
 use Rattle.tb_site.specs.Site.{file_at}
 
 -- ---- which files a page has
 
--- a to z, 0 to 9, '_', '-' or '.'
+-- a to z, 0 to 9, '_' or '-'
+unfoldable pub is_folder_byte : ℕ → Bool
+is_folder_byte c = (nat_le 97 c && nat_le c 122) || (nat_le 48 c && nat_le c 57) || (c == 95)
+    || (c == 45)
+
+-- or '.'
 unfoldable pub is_name_byte : ℕ → Bool
-is_name_byte c = (nat_le 97 c && nat_le c 122) || (nat_le 48 c && nat_le c 57) || (c == 95)
-    || (c == 45) || (c == 46)
+is_name_byte c = is_folder_byte c || (c == 46)
+
+abbrev pub is_file_name : List ℕ → Bool
+is_file_name name = list_all is_name_byte name
+
+-- which of the folders in it
+abbrev pub is_folder_name : List ℕ → Bool
+is_folder_name name = not (length name == 0) && list_all is_folder_byte name
+
+abbrev pub are_folder_and_file : List ℕ → List ℕ → Bool
+are_folder_and_file folder file = is_folder_name folder && is_file_name file
+
+-- Rule: a page has the files of its folder and of the folders in it, and none further down. Tried by page.
+abbrev pub has_place_at : List ℕ → Option ℕ → Bool
+has_place_at name None = is_file_name name
+has_place_at name (Some slash) = are_folder_and_file (take slash name) (drop (slash + 1) name)
+
+abbrev pub has_place : List ℕ → Bool
+has_place name = has_place_at name (position (λ byte. byte == 47) name)
 
 abbrev pub has_ending : List ℕ → List ℕ → Bool
 has_ending name ending = ends_with nat_eq name ending
@@ -36,12 +57,12 @@ media_by_ending name =
 
 -- what a file of this name is, if a page has it; others are passed over
 abbrev pub media_of : List ℕ → Option MediaType
-media_of name = if list_all is_name_byte name then media_by_ending name else None
+media_of name = if has_place name then media_by_ending name else None
 
--- ---- one after the other, up to 64 files and 4 MiB in all
+-- ---- one after the other, up to 128 files and 8 MiB in all
 
 abbrev pub empty_draft : Draft
-empty_draft = record { files = []; room = 4194304 }
+empty_draft = record { files = []; room = 8388608 }
 
 abbrev pub with_file : Draft → FoundFile → MediaType → Draft
 with_file draft found media = record {
@@ -53,7 +74,7 @@ with_file draft found media = record {
 abbrev pub draft_as : Draft → FoundFile → Option MediaType → Result Draft PageFault
 draft_as draft found None = Ok draft
 draft_as draft found (Some media) =
-    if nat_le 64 (length draft.files) then Err TooManyFiles
+    if nat_le 128 (length draft.files) then Err TooManyFiles
     else (if nat_lt draft.room (length found.body) then Err TooLarge
     else Ok (with_file draft found media))
 

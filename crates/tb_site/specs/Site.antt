@@ -1,5 +1,5 @@
 -- The files of a page, and which of them a message is told.
-use Rattle.std.specs.Prelude.{◌≡◌, ◌≢◌, ℕ, Bool, true, false, ◌&&◌, ◌||◌, if◌then◌else◌, List, [], codes, find, Option, Some, None, Result, Ok, Err}
+use Rattle.std.specs.Prelude.{◌≡◌, ℕ, Bool, true, false, ◌&&◌, ◌||◌, if◌then◌else◌, List, [], codes, find, Option, Some, None, Result, Ok, Err}
 use Rattle.std.specs.Str.{bytes_eq}
 use Rattle.tb_http.specs.declared.answer.Answer.{Answer}
 use Rattle.tb_http.specs.declared.answer.ContentType.TheVariants.{File}

@@ -7,13 +7,13 @@ use std::alloc::{AllocError, AllocFailed};
 /// Why a folder makes no page.
 #[derive(Clone, Copy, Debug, PartialEq, Eq)]
 pub enum PageFault {
-    /// It has more than 64 files of a page.
+    /// It has more than 128 files of a page.
     TooManyFiles,
-    /// They have more than 4 MiB in all.
+    /// They have more than 8 MiB in all.
     TooLarge,
     /// It has no `index.html`.
     NoIndex,
-    /// The folder, or one of its files, can't be read.
+    /// The folder, a folder in it or one of their files can't be read.
     Unreadable,
     Memory,
 }

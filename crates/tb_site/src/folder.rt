@@ -4,9 +4,9 @@ ghost use Rattle.tb_site.specs.declared.page.FoundFile.{FoundFile};
 ghost use Rattle.tb_site.specs.Page.{Makes, is_of_disk, page_of};
 
 use crate::fault::PageFault;
-use crate::page::{FoundFile, MOST_BYTES, MOST_FILES, make_page, media_of};
+use crate::page::{FoundFile, MOST_BYTES, MOST_FILES, is_folder_name, make_page, media_of};
 use crate::site::Site;
-use std::fs::{DirEntry, File, read_dir};
+use std::fs::{DirEntry, File, ReadDir, read_dir};
 use std::io::{self, Error, ErrorKind, Read};
 use tb_values::{Items, Text};
 
@@ -19,8 +19,16 @@ fn fault_of(error: Error) -> PageFault
     }
 }
 
-// The name of an entry that is a file itself, and no link to one, if a page has a file of that name.
-fn name_of(rt: &HostRuntime, entry: io::Result<DirEntry>) -> Result<Option<Text>, PageFault>
+// What a page takes of an entry of a folder.
+#[derive(Drop)]
+enum Entry {
+    File(Text),
+    Folder(Text),
+    // Another file, another folder, or a link to one.
+    Neither,
+}
+
+fn read_entry(rt: &HostRuntime, entry: io::Result<DirEntry>) -> Result<Entry, PageFault>
     ensures { IfErr result (λ fault. is_of_disk fault ≡ true) }
 {
     let entry = match entry {
@@ -28,31 +36,69 @@ fn name_of(rt: &HostRuntime, entry: io::Result<DirEntry>) -> Result<Option<Text>
         Err(error) => return Err(fault_of(error)),
     };
     let name = entry.file_name();
-    if media_of(name).is_none() {
-        return Ok(None);
+    let is_page_file = media_of(name).is_some();
+    let is_page_folder = is_folder_name(name.as_bytes());
+    if !is_page_file && !is_page_folder {
+        return Ok(Entry::Neither);
     }
     match entry.file_type() {
-        Ok(kind) if kind.is_file() => Ok(Some(Text::from_str(rt.alloc(), name)?)),
-        Ok(_) => Ok(None),
+        Ok(kind) if kind.is_file() && is_page_file => {
+            Ok(Entry::File(Text::from_str(rt.alloc(), name)?))
+        }
+        Ok(kind) if kind.is_dir() && is_page_folder => {
+            Ok(Entry::Folder(Text::from_str(rt.alloc(), name)?))
+        }
+        Ok(_) => Ok(Entry::Neither),
         Err(error) => Err(fault_of(error)),
     }
 }
 
-// The names of the files in a folder that a page has, of so many at most.
-fn list(rt: &HostRuntime, folder: &str, most: usize) -> Result<Vec<Text>, PageFault>
+fn open(rt: &HostRuntime, folder: &str) -> Result<ReadDir, PageFault>
     ensures { IfErr result (λ fault. is_of_disk fault ≡ true) }
 {
-    let entries = match read_dir(rt, folder) {
-        Ok(entries) => entries,
-        Err(error) => return Err(fault_of(error)),
-    };
-    let mut names = Vec::new(rt.alloc());
-    for entry in entries {
-        if names.len() >= most {
+    match read_dir(rt, folder) {
+        Ok(entries) => Ok(entries),
+        Err(error) => Err(fault_of(error)),
+    }
+}
+
+// Adds the files of a folder in the page's: none of the folders in it.
+fn push_inner(
+    rt: &HostRuntime,
+    folder: &str,
+    inner: &str,
+    names: &mut Vec<Text>,
+) -> Result<(), PageFault>
+    ensures { IfErr result (λ fault. is_of_disk fault ≡ true) }
+{
+    let path = format!(in rt.alloc(); "{folder}/{inner}")?;
+    for entry in open(rt, path.as_str())? {
+        if names.len() > MOST_FILES {
             break;
         }
-        if let Some(name) = name_of(rt, entry)? {
-            names.push(name)?;
+        if let Entry::File(name) = read_entry(rt, entry)? {
+            let mut whole = Text::from_str(rt.alloc(), inner)?;
+            whole.push_str("/")?;
+            whole.push_str(name.as_str())?;
+            names.push(whole)?;
+        }
+    }
+    Ok(())
+}
+
+// The names of the files of a page: one more than it may have at most.
+fn list(rt: &HostRuntime, folder: &str) -> Result<Vec<Text>, PageFault>
+    ensures { IfErr result (λ fault. is_of_disk fault ≡ true) }
+{
+    let mut names = Vec::new(rt.alloc());
+    for entry in open(rt, folder)? {
+        if names.len() > MOST_FILES {
+            break;
+        }
+        match read_entry(rt, entry)? {
+            Entry::File(name) => names.push(name)?,
+            Entry::Folder(inner) => push_inner(rt, folder, inner.as_str(), &mut names)?,
+            Entry::Neither => (),
         }
     }
     Ok(names)
@@ -79,11 +125,11 @@ fn read_file(
     }
 }
 
-// The files of a folder that a page has: one more than it may have at most, and one byte more.
+// The files of a folder and of the folders in it that a page has: one more than it may have at most, and one byte more.
 fn find_files(rt: &HostRuntime, folder: &str) -> Result<Vec<FoundFile>, PageFault>
     ensures { IfErr result (λ fault. is_of_disk fault ≡ true) }
 {
-    let names = list(rt, folder, MOST_FILES + 1)?;
+    let names = list(rt, folder)?;
     let mut found = Vec::new(rt.alloc());
     let mut room = MOST_BYTES + 1;
     for name in names {

@@ -12,6 +12,6 @@ mod site;
 
 pub use fault::PageFault;
 pub use folder::read_page;
-pub use page::{FoundFile, MOST_BYTES, MOST_FILES, make_page, media_of};
+pub use page::{FoundFile, MOST_BYTES, MOST_FILES, is_folder_name, make_page, media_of};
 pub use paths::Paths;
 pub use site::{Site, SiteFile};

@@ -1,5 +1,5 @@
 //! The page of the files of a folder.
-ghost use Rattle.std.specs.Prelude.{◌≡◌, ◌≤◌, codes, length, IfOk};
+ghost use Rattle.std.specs.Prelude.{◌≡◌, ◌==◌, ◌<◌, ◌≤◌, codes, length, position, IfOk, IfSome};
 ghost use Rattle.std.specs.List.{list_all};
 ghost use Rattle.tb_site.specs.Page as page;
 ghost use Rattle.tb_site.specs.Page.{Makes};
@@ -11,12 +11,12 @@ use tb_http::MediaType;
 use tb_values::{Duplicate, Items, Text};
 
 /// How many files a page has at most.
-pub const MOST_FILES: usize = 64;
+pub const MOST_FILES: usize = 128;
 
 /// How many bytes they have in all at most.
-pub const MOST_BYTES: usize = 4_194_304;
+pub const MOST_BYTES: usize = 8_388_608;
 
-/// A file of a folder, with its name in it.
+/// A file of a folder, with its name in it: `style.css`, or `core/days.js` in a folder there.
 #[derive(Drop)]
 pub struct FoundFile {
     pub name: Text,
@@ -30,21 +30,60 @@ struct Draft {
     room: usize,
 }
 
+#[tactic(auto, unfolding(crate::specs::Page::is_folder_byte))]
+fn is_folder_byte(byte: u8) -> bool
+    ensures { result ≡ page.is_folder_byte byte }
+{
+    byte.is_ascii_lowercase() || byte.is_ascii_digit() || byte == b'_' || byte == b'-'
+}
+
 #[tactic(auto, unfolding(crate::specs::Page::is_name_byte))]
 fn is_name_byte(byte: u8) -> bool
     ensures { result ≡ page.is_name_byte byte }
 {
-    byte.is_ascii_lowercase()
-        || byte.is_ascii_digit()
-        || byte == b'_'
-        || byte == b'-'
-        || byte == b'.'
+    is_folder_byte(byte) || byte == b'.'
 }
 
-fn has_name_bytes(name: &[u8]) -> bool
-    ensures { result ≡ list_all page.is_name_byte name.now }
+fn is_file_name(name: &[u8]) -> bool
+    ensures { result ≡ page.is_file_name name.now }
 {
     name.iter().all(|byte| is_name_byte(*byte))
+}
+
+fn has_folder_bytes(name: &[u8]) -> bool
+    ensures { result ≡ list_all page.is_folder_byte name.now }
+{
+    name.iter().all(|byte| is_folder_byte(*byte))
+}
+
+/// Whether a page has the files in a folder of this name.
+pub fn is_folder_name(name: &[u8]) -> bool
+    ensures { result ≡ page.is_folder_name name.now }
+{
+    !name.is_empty() && has_folder_bytes(name)
+}
+
+fn are_folder_and_file(folder: &[u8], file: &[u8]) -> bool
+    ensures { result ≡ page.are_folder_and_file folder.now file.now }
+{
+    is_folder_name(folder) && is_file_name(file)
+}
+
+fn slash_of(name: &[u8]) -> Option<usize>
+    ensures place { result ≡ position (λ byte. byte == 47) name.now }
+    ensures within { IfSome result (λ place. place < length name.now) }
+{
+    name.iter().position(|byte| *byte == b'/')
+}
+
+// A file's name, or a folder's and that of a file in it, with a slash between them.
+fn has_place(name: &[u8]) -> bool
+    ensures { result ≡ page.has_place name.now }
+{
+    match slash_of(name) {
+        Some(slash) => are_folder_and_file(&name[..slash], &name[slash + 1..]),
+        None => is_file_name(name),
+    }
 }
 
 fn has_ending(name: &str, ending: &str) -> bool
@@ -80,7 +119,7 @@ fn media_by_ending(name: &str) -> Option<MediaType>
 pub fn media_of(name: &str) -> Option<MediaType>
     ensures { result ≡ page.media_of name.now }
 {
-    if has_name_bytes(name.as_bytes()) {
+    if has_place(name.as_bytes()) {
         media_by_ending(name)
     } else {
         None
@@ -136,7 +175,7 @@ fn draft_of(alloc: Global, found: &[FoundFile]) -> Result<Draft, PageFault>
     Ok(draft)
 }
 
-/// The page of these files: those whose names say what they are, at most 64 and 4 MiB in all, with `index.html` among them.
+/// The page of these files: those whose names say what they are, at most 128 and 8 MiB in all, with `index.html` among them.
 pub fn make_page(alloc: Global, found: &[FoundFile]) -> Result<Site, PageFault>
     ensures { Makes result (page.page_of found.now) }
 {

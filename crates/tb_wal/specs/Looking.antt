@@ -43,7 +43,7 @@ HasFault there younger log (Some Foreign) =
 HasFault there younger log None =
     (IsDamaged log → ⊥) × (HasCommit log → (there ≡ true) × (younger ≡ false))
 
--- of what the machine says of a file and its log
-abbrev pub IsFound : Option LogFault → Type 0
-IsFound found =
-    (there : Bool) × (younger : Bool) × (log : List ℕ) × HasFault there younger log found
+-- of what is shown of a file and its log
+abbrev pub IsFound : (Bool → Bool → List ℕ → Type 0) → Option LogFault → Type 0
+IsFound shows found = (there : Bool) × (younger : Bool) × (log : List ℕ) × shows there younger log
+    × HasFault there younger log found

@@ -4,8 +4,6 @@ ghost use Rattle.tb_wal.specs.Looking.{HasFault, IsFound};
 
 use crate::log::{has_commit, is_damaged};
 use std::alloc::AllocError;
-use std::fs::{self, Metadata};
-use std::io::ErrorKind;
 
 /// Why a file of boards isn't opened with the log beside it.
 #[derive(Clone, Copy, Debug, PartialEq, Eq)]
@@ -18,39 +16,35 @@ pub enum LogFault {
     Foreign,
 }
 
-/// Looks at a file and its log. A log that can't be read counts as empty: the engine says why it can't open it.
-pub fn find_log_fault(rt: &HostRuntime, path: &str) -> Result<Option<LogFault>, AllocError>
-    ensures { IfOk result IsFound }
+/// What is seen of a file and the log beside it.
+#[derive(Drop)]
+pub struct Seen {
+    /// The file is there, and isn't empty.
+    pub is_there: bool,
+    /// It is younger than its log.
+    pub is_younger: bool,
+    /// The bytes of the log.
+    pub log: Vec<u8>,
+}
+
+/// A file and the log beside it.
+pub trait Beside {
+    ghost use Rattle.std.specs.Prelude.{Bool, IfOk, List, ℕ};
+
+    /// Whether the file is there, whether it is younger than its log, and the bytes of the log.
+    ghost shows: { Self → Bool → Bool → List ℕ → Type 0 };
+
+    fn look(&self) -> Result<Seen, AllocError>
+        ensures { IfOk result
+            (λ seen. shows self.now seen.is_there seen.is_younger seen.log.items) };
+}
+
+/// Looks at a file and its log.
+pub fn find_log_fault<B: Beside>(beside: &B) -> Result<Option<LogFault>, AllocError>
+    ensures { IfOk result (IsFound (B.shows beside.now)) }
 {
-    let log_path = log_path_of(rt, path)?;
-    let log = match fs::read(rt, log_path.as_str()) {
-        Ok(log) => log,
-        Err(error) if error.kind() == ErrorKind::OutOfMemory => return Err(AllocError),
-        Err(_) => Vec::new(rt.alloc()),
-    };
-    let (is_there, is_younger) = match fs::metadata(rt, path) {
-        Ok(file) => (file.len() > 0, is_younger(rt, &file, log_path.as_str())),
-        Err(_) => (false, false),
-    };
-    Ok(fault_of(is_there, is_younger, log.as_slice()))
-}
-
-// The log stands where a link to the file leads, as the engine has it.
-fn log_path_of(rt: &HostRuntime, path: &str) -> Result<String, AllocError> {
-    match fs::canonicalize(rt, path) {
-        Ok(real) => format!(in rt.alloc(); "{}-wal", real.as_str()),
-        Err(_) => format!(in rt.alloc(); "{path}-wal"),
-    }
-}
-
-fn is_younger(rt: &HostRuntime, file: &Metadata, log_path: &str) -> bool {
-    let Ok(log) = fs::metadata(rt, log_path) else {
-        return false;
-    };
-    match (file.created(), log.created()) {
-        (Ok(file), Ok(log)) => file > log,
-        _ => false,
-    }
+    let seen = beside.look()?;
+    Ok(fault_of(seen.is_there, seen.is_younger, seen.log.as_slice()))
 }
 
 fn fault_of(is_there: bool, is_younger: bool, log: &[u8]) -> Option<LogFault>

@@ -6,6 +6,8 @@
 mod beside;
 mod frames;
 mod log;
+mod machine;
 
-pub use beside::{LogFault, find_log_fault};
+pub use beside::{Beside, LogFault, Seen, find_log_fault};
 pub use log::{has_commit, is_damaged};
+pub use machine::MachineBeside;

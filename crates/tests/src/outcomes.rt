@@ -1,10 +1,9 @@
 //! Lines on standard output and standard error, and the status at the end.
 
 use std::alloc::Global;
+use tb_files::{fault_of_making, fault_of_opening, fault_of_script, print_audit};
 use tb_keeper::{Audit, CreateFault};
-use tb_orders::{
-    Ending, fault_of_making, fault_of_opening, fault_of_script, print_audit, print_fault, status_of,
-};
+use tb_orders::{Ending, print_fault, status_of};
 use tb_program::Fault;
 use tb_script::LinesFault;
 use tb_sql::opening::OpenFault;

@@ -101,7 +101,9 @@ pub returns-in-Init-clause-left : goal.returns-in-Init-clause-left
 returns-in-Init-clause-left g c = rw c.in-Init.is (IfErr-weaker c.init.result _ _ (λ failed unmade. (refl, unmade)) c.init.ensures.unmade)
 
 pub returns-in-Serve-clause-left : goal.returns-in-Serve-clause-left
-returns-in-Serve-clause-left g c = rw c.in-Serve.is (always c.alone.result _ (λ failed. refl))
+returns-in-Serve-clause-left g c =
+    rw c.in-Serve.is (left_alone c.alone.result c.serve_file.result _ c.alone.ensures.fault
+    (IfErr-weaker c.serve_file.result _ _ (λ fault failed. (refl, failed)) c.serve_file.ensures.failed))
 
 pub returns-in-Import-clause-left : goal.returns-in-Import-clause-left
 returns-in-Import-clause-left g c =

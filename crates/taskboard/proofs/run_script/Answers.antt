@@ -1,5 +1,5 @@
 use Rattle.std.proofs.Common.{◌≡◌, Err, refl, true}
-use Rattle.tb_orders.specs.Faults.{fault_of_script}
+use Rattle.tb_files.specs.Faults.{fault_of_script}
 use Rattle.tb_program.specs.declared.fault.Fault.{Fault}
 use Rattle.tb_program.specs.declared.fault.Fault.TheVariants.{ReadFailed}
 use Rattle.tb_script.specs.Fault.{is_unread}

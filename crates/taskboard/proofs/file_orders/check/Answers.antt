@@ -11,4 +11,4 @@ returns-in_err-conn-clause-unchecked g c =
 pub returns-in_err-check_file-clause-unchecked : goal.returns-in_err-check_file-clause-unchecked
 returns-in_err-check_file-clause-unchecked g c =
     left_by c.from_residual-in_err-check_file.result (failure_of c.in_err-check_file.field-0.0) _ c.from_residual-in_err-check_file.ensures.1
-    (inr (record { found = c.in_ok-conn.conn; undone = c.in_err-check_file.field-0.0; done = (c.in_err-check_file.ensures.undone, c.in_err-check_file.ensures.cut); told = refl }))
+    (inr (record { found = c.in_ok-conn.conn; is_found = c.in_ok-conn.ensures.found; undone = c.in_err-check_file.field-0.0; done = (c.in_err-check_file.ensures.undone, c.in_err-check_file.ensures.cut); told = refl }))

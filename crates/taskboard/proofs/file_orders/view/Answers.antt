@@ -11,4 +11,4 @@ returns-in_err-conn-clause-unshown g c =
 pub returns-in_err-print_board-clause-unshown : goal.returns-in_err-print_board-clause-unshown
 returns-in_err-print_board-clause-unshown g c =
     left_by c.from_residual-in_err-print_board.result (failure_of c.in_err-print_board.field-0.0) _ c.from_residual-in_err-print_board.ensures.1
-    (inr (record { found = c.in_ok-conn.conn; undone = c.in_err-print_board.field-0.0; done = (c.in_err-print_board.ensures.undone, c.in_err-print_board.ensures.unwritten, c.in_err-print_board.ensures.cut); told = refl }))
+    (inr (record { found = c.in_ok-conn.conn; is_found = c.in_ok-conn.ensures.found; undone = c.in_err-print_board.field-0.0; done = (c.in_err-print_board.ensures.undone, c.in_err-print_board.ensures.unwritten, c.in_err-print_board.ensures.cut); told = refl }))

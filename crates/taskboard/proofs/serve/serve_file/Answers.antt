@@ -1,44 +1,35 @@
-use Rattle.std.proofs.Common.{◌≡◌, ap, refl, subst, sym, true}
-use Rattle.tb_files.specs.File.{IsSaved}
-use Rattle.tb_program.specs.declared.fault.Fault.TheVariants.{Memory}
-use Rattle.taskboard.specs.Serve.{is_of_serving, server_at}
+use Rattle.std.proofs.Common.{inl, inr, refl}
+use Rattle.std.proofs.lemmas.Result.{IfErr-weaker, IfOk-weaker}
 use Rattle.taskboard.proofs.Handed.{left_by}
-use Rattle.taskboard.proofs.Sessions.{does_of, ended_well}
 use Rattle.taskboard.proofs.serve.serve_file.Goals as goal
 
-pub returns-in-Ok-clause-served : goal.returns-in-Ok-clause-served
-returns-in-Ok-clause-served c =
-    let server = c.in_ok-server.server in
-    let (later, desk, runs, run, laps) = c.in-Ok.ensures.run in
-    let files = c.in_ok-close_desk-in-Ok.ensures.saved.0 in (
-      refl,
-      record {
-        old = server.desk;
-        new = later.desk;
-        session = record {
-          found = c.in_ok-conn.conn;
-          begun = rw c.in_ok-server.ensures.desk c.in_ok-desk.ensures.begun;
-          files = files;
-          saved = subst (λ keep. IsSaved keep.conn files) (sym desk) c.in_ok-close_desk-in-Ok.ensures.saved.1;
-        };
-        site = server.paths.site;
-        kept = later.paths.site;
-        page = rw c.in_ok-server.ensures.page c.in_ok-page.ensures.page;
-        talks = server.peers.items;
-        later = later.peers.items;
-        begin = c.in_ok-server.ensures.silent;
-        deeds = runs.deeds;
-        run = ended_well _ _ _ _ _ _ _ _ _ _ _ _ _ _ c.in_ok-event_loop.ensures.limit run;
-        does = does_of _ runs (λ at. server_at _ at.desk at.paths.site at.peers.items)
-            (λ history a b is.
-            record { page = is.page; places = is.places; calls = is.calls; timed = is.timed; fits = is.fits; asked = tt; honest = is.honest; run = is.run })
-            (λ at place. refl);
-      },
-    )
+pub returns-clause-served : goal.returns-clause-served
+returns-clause-served g c =
+    IfOk-weaker c.serve_desk.result _ _ (λ ending is. (
+      is.0,
+      (c.in_ok-conn.conn, c.in_ok-conn.ensures.found, record { old = c.in_ok-desk.desk; begun = c.in_ok-desk.ensures.begun; does = is.1 }),
+    )) c.serve_desk.ensures.served
 
-pub returns-in_err-server-clause-fault : goal.returns-in_err-server-clause-fault
-returns-in_err-server-clause-fault c = left_by c.from_residual-in_err-server.result Memory (λ fault. is_of_serving fault ≡ true) c.from_residual-in_err-server.ensures.1 refl
+pub returns-clause-failed : goal.returns-clause-failed
+returns-clause-failed g c =
+    IfErr-weaker c.serve_desk.result _ _ (λ fault left.
+    inr (inr (c.in_ok-conn.conn, c.in_ok-conn.ensures.found, record { old = c.in_ok-desk.desk; begun = c.in_ok-desk.ensures.begun; does = left })))
+    c.serve_desk.ensures.left
 
-pub returns-in_err-close_desk-in-Ok-clause-fault : goal.returns-in_err-close_desk-in-Ok-clause-fault
-returns-in_err-close_desk-in-Ok-clause-fault c =
-    left_by c.from_residual-in_err-close_desk-in-Ok.result c.in_err-close_desk-in-Ok.field-0.0 (λ fault. is_of_serving fault ≡ true) c.from_residual-in_err-close_desk-in-Ok.ensures.1 (ap is_of_serving c.in_err-close_desk-in-Ok.ensures.fault)
+pub returns-in_err-page-clause-failed : goal.returns-in_err-page-clause-failed
+returns-in_err-page-clause-failed g c =
+    left_by c.from_residual.result c.in_err-page.field-0.0 _ c.from_residual.ensures.1 (inl c.in_err-page.ensures.unpaged)
+
+pub returns-in_err-conn-clause-failed : goal.returns-in_err-conn-clause-failed
+returns-in_err-conn-clause-failed g c =
+    left_by c.from_residual-in_err-conn.result c.in_err-conn.field-0.0 _ c.from_residual-in_err-conn.ensures.1 (inr (inl (inl c.in_err-conn.ensures.fault)))
+
+pub returns-in_err-desk-clause-failed : goal.returns-in_err-desk-clause-failed
+returns-in_err-desk-clause-failed g c =
+    left_by c.from_residual-in_err-desk.result c.in_err-desk.field-0.0.fault _ c.from_residual-in_err-desk.ensures.1
+    (inr (inl (inr (record {
+      found = c.in_ok-conn.conn;
+      is_found = c.in_ok-conn.ensures.found;
+      left = c.in_err-desk.field-0.0.left;
+      untaken = c.in_err-desk.ensures.untaken;
+    }))))

@@ -1,7 +1,9 @@
 use Rattle.std.proofs.Common.{rules, refl, is_err, false, [], arith}
 use Rattle.tb_event_loop.specs.Deeds.{called}
+use Rattle.tb_event_loop.specs.Heard.{Reads}
 use Rattle.tb_event_loop.specs.Sockets.{unread}
 use Rattle.tb_event_loop.proofs.Acting.{begins_read, did_fail, did_read, reads_nothing, reads_some}
+use Rattle.tb_event_loop.proofs.Listening.{hears_bytes}
 use Rattle.tb_event_loop.proofs.exchange.read_some.Goals as goal
 
 pub returns-in-Ok-eq0-clause-after : goal.returns-in-Ok-eq0-clause-after
@@ -12,7 +14,8 @@ returns-in-Ok-eq0-clause-after g c =
 
 pub returns-in-Ok-eq0-clause-reads : goal.returns-in-Ok-eq0-clause-reads
 returns-in-Ok-eq0-clause-reads g c =
-    begins_read g.N.Sockets.follows g.V.Service.follows g.V.Service.owed_at false c.args.place _ (c.args.sockets.now, c.args.service.now) (c.read.new.self, c.args.service.now)
+    begins_read g.N.Sockets.follows g.V.Service.follows g.V.Service.owed_at (Reads c.args.place c.args.connection.now c.end_input.new.self) false c.args.place [] (c.args.sockets.now, c.args.service.now) (c.read.new.self, c.args.service.now)
+    (refl, c.end_input.ensures)
     (reads_nothing g.N.Sockets.follows g.V.Service.follows g.V.Service.owed_at c.args.place c.in-Ok-eq0.field-0 c.read.new.piece c.args.sockets.now c.read.new.self c.args.service.now
     (search rules) c.in-Ok-eq0.ensures.came)
 
@@ -24,7 +27,8 @@ returns-in-Ok-clause-after g c =
 
 pub returns-in-Ok-clause-reads : goal.returns-in-Ok-clause-reads
 returns-in-Ok-clause-reads g c =
-    begins_read g.N.Sockets.follows g.V.Service.follows g.V.Service.owed_at (is_err c.happen.result) c.args.place _ (c.args.sockets.now, c.args.service.now) (c.read.new.self, c.happen.new.self)
+    begins_read g.N.Sockets.follows g.V.Service.follows g.V.Service.owed_at (Reads c.args.place c.args.connection.now c.bytes_came.new.self) (is_err c.happen.result) c.args.place _ (c.args.sockets.now, c.args.service.now) (c.read.new.self, c.happen.new.self)
+    (refl, hears_bytes c.args.place c.in-Ok.count c.read.new.piece c.args.connection.now c.bytes_came.new.self (omega arith) c.in-Ok.ensures.bound.0 c.bytes_came.ensures)
     (reads_some g.N.Sockets.follows g.V.Service.follows g.V.Service.owed_at (is_err c.happen.result) c.args.place c.in-Ok.count c.read.new.piece c.args.sockets.now c.read.new.self
     c.args.service.now c.happen.new.self (omega arith) c.in-Ok.ensures.bound.0 c.in-Ok.ensures.came c.happen.ensures.after)
 
@@ -34,4 +38,4 @@ returns-in-Err-clause-after g c =
 
 pub returns-in-Err-clause-reads : goal.returns-in-Err-clause-reads
 returns-in-Err-clause-reads g c =
-    record { first = called (unread c.args.place _); is = refl; more = []; done = ((c.in-Err.ensures.failed, (tt, c.args.service.now, refl, refl)), tt); ends = refl }
+    record { first = called (unread c.args.place _); is = (refl, c.read_failed.ensures); more = []; done = ((c.in-Err.ensures.failed, (tt, c.args.service.now, refl, refl)), tt); ends = refl }

@@ -1,5 +1,6 @@
 use Rattle.std.proofs.Common.{ap, refl}
 use Rattle.tb_calls.specs.Call.{opening}
+use Rattle.tb_files.proofs.Made.{made_holds}
 use Rattle.tb_files.proofs.Unmade.{by_making}
 use Rattle.tb_files.proofs.init.make_file.Goals as goal
 use Rattle.tb_orders.specs.Items.{fault_alone}
@@ -12,6 +13,8 @@ returns-in-Ok-close_desk-clause-made g c = (
     at = λ clean. c.in-Ok.ensures.begun (c.requires.opens clean);
     files = c.in-Ok-close_desk.ensures.saved.0;
     saved = c.in-Ok-close_desk.ensures.saved.1;
+    holds = λ clean honest. made_holds c.in-Ok.desk c.in-Ok-close_desk.ensures.saved.0 (opening c.args.order.now.name c.args.order.now.key)
+        c.in-Ok.ensures.fresh (c.in-Ok.ensures.begun (c.requires.opens clean)).held (c.in-Ok-close_desk.ensures.saved.1 honest);
   },
 )
 

@@ -1,5 +1,6 @@
 use Rattle.std.proofs.Common.{inl, inr, refl}
-use Rattle.std.proofs.lemmas.Result.{IfErr-at_err, IfOk-at_ok, err_from_is_err_and}
+use Rattle.std.proofs.lemmas.Result.{IfErr-at_err, IfOk-at_ok}
+use Rattle.tb_files.proofs.Handed.{left_by}
 use Rattle.tb_files.proofs.Begun.{begun_as}
 use Rattle.tb_files.proofs.Quiet.{unwritten}
 use Rattle.tb_orders.proofs.NewKeys.{asked_anyhow}
@@ -11,7 +12,8 @@ returns-in-Ok-clause-given g c = record {
   new = c.give_key-desk.result.0;
   session = record {
     found = c.in_ok-desk.ensures.begun.0;
-    begun = begun_as _ c.in_ok-desk.ensures.begun.0 c.into_keep.result c.in_ok-desk.desk c.into_keep.ensures c.in_ok-desk.ensures.begun.1;
+    is_found = c.in_ok-desk.ensures.begun.1;
+    begun = begun_as _ c.in_ok-desk.ensures.begun.0 c.into_keep.result c.in_ok-desk.desk c.into_keep.ensures c.in_ok-desk.ensures.begun.2;
     files = c.in_ok-close_desk-in-Ok.ensures.saved.0;
     saved = c.in_ok-close_desk-in-Ok.ensures.saved.1;
   };
@@ -25,23 +27,21 @@ returns-clause-silent g c quiet = IfErr-at_err _ c.in-Err.is c.give_key-desk.ens
 
 pub returns-in_err-asked-clause-failed : goal.returns-in_err-asked-clause-failed
 returns-in_err-asked-clause-failed g c =
-    let p = err_from_is_err_and c.from_residual.result c.from_residual.ensures.1 in
-    rw (p.1, p.2) (inl (c.in_err-asked.ensures.fault, refl))
+    left_by c.from_residual.result c.in_err-asked.field-0.0 _ c.from_residual.ensures.1 (inl (c.in_err-asked.ensures.fault, refl))
 
 pub returns-in_err-desk-clause-failed : goal.returns-in_err-desk-clause-failed
 returns-in_err-desk-clause-failed g c =
-    let p = err_from_is_err_and c.from_residual-in_err-desk.result c.from_residual-in_err-desk.ensures.1 in
-    rw (p.1, p.2) (inr (inl (c.in_err-desk.ensures.unopened, refl)))
+    left_by c.from_residual-in_err-desk.result c.in_err-desk.field-0.0 _ c.from_residual-in_err-desk.ensures.1 (inr (inl (c.in_err-desk.ensures.unopened, refl)))
 
 pub returns-in_err-close_desk-in-Ok-clause-failed : goal.returns-in_err-close_desk-in-Ok-clause-failed
 returns-in_err-close_desk-in-Ok-clause-failed g c =
-    let p = err_from_is_err_and c.from_residual-in_err-close_desk-in-Ok.result c.from_residual-in_err-close_desk-in-Ok.ensures.1 in
     let begun = c.in_ok-desk.ensures.begun in
-    rw (p.1, p.2) (inr (inr (
+    left_by c.from_residual-in_err-close_desk-in-Ok.result c.in_err-close_desk-in-Ok.field-0.0 _ c.from_residual-in_err-close_desk-in-Ok.ensures.1 (inr (inr (
       begun.0,
+      begun.1,
       record {
         old = c.into_keep.result;
-        begun = begun_as _ begun.0 c.into_keep.result c.in_ok-desk.desk c.into_keep.ensures begun.1;
+        begun = begun_as _ begun.0 c.into_keep.result c.in_ok-desk.desk c.into_keep.ensures begun.2;
         does = record {
           new = c.give_key-desk.result.0;
           asked = c.in_ok-asked.asked;
@@ -62,9 +62,10 @@ returns-clause-failed g c =
     let begun = c.in_ok-desk.ensures.begun in
     inr (inr (
       begun.0,
+      begun.1,
       record {
         old = c.into_keep.result;
-        begun = begun_as _ begun.0 c.into_keep.result c.in_ok-desk.desk c.into_keep.ensures begun.1;
+        begun = begun_as _ begun.0 c.into_keep.result c.in_ok-desk.desk c.into_keep.ensures begun.2;
         does = record {
           new = c.give_key-desk.result.0;
           asked = c.in_ok-asked.asked;

@@ -3,7 +3,6 @@ use Rattle.tb_event_loop.specs.Deeds.{called}
 use Rattle.tb_event_loop.specs.Sockets.{closed}
 use Rattle.tb_event_loop.proofs.Acting.{acts_closed}
 use Rattle.tb_event_loop.proofs.Doing.{leaves_none}
-use Rattle.tb_event_loop.proofs.Sparing.{spares_vacated}
 use Rattle.tb_event_loop.proofs.event_loop.EventLoop.leave.Goals as goal
 
 pub returns-then-not-count_one-clause-after : goal.returns-then-not-count_one-clause-after
@@ -14,9 +13,6 @@ returns-then-not-count_one-clause-after g c = record {
   left = leaves_none c.args.self.now.still_to_end c.count_one.new.still_to_end (c.count_one.ensures.none (search rules));
 }
 
-pub returns-then-not-count_one-clause-spares : goal.returns-then-not-count_one-clause-spares
-returns-then-not-count_one-clause-spares g c = spares_vacated c.args.place c.args.self.now.places c.vacate.new.self c.vacate.ensures.vacant
-
 pub returns-clause-after : goal.returns-clause-after
 returns-clause-after g c =
     let acts = acts_closed g.N.Sockets.follows g.V.Service.follows g.V.Service.owed_at (is_err c.happen.result) c.args.place c.args.sockets.now c.close.new.self c.args.service.now c.happen.new.self c.close.ensures c.happen.ensures.after in
@@ -26,6 +22,3 @@ returns-clause-after g c =
       says = λ limited. inl refl;
       left = c.count_one.ensures.counted (search rules);
     }
-
-pub returns-clause-spares : goal.returns-clause-spares
-returns-clause-spares g c = spares_vacated c.args.place c.args.self.now.places c.vacate.new.self c.vacate.ensures.vacant

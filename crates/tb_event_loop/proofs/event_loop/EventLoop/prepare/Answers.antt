@@ -23,3 +23,7 @@ pub returns-clause-marks : goal.returns-clause-marks
 returns-clause-marks g c =
     subst (λ (told : List Told). Hears told c.args.self.now.places c.seat_all.new.places) c.told-2.ensures
     (hears c.told-2.result.now c.args.self.now.places c.mark_ready.new.self c.seat_all.new.places c.mark_ready.ensures.marks c.mark_ready.ensures.same c.seat_all.ensures.remain)
+
+pub returns-clause-moment : goal.returns-clause-moment
+returns-clause-moment g c =
+    let shown = c.now-self.ensures.shown in (shown.0, c.now-self.new.self.ticks, shown.1, c.now-self.ensures.told ∙ shown.2)

@@ -9,6 +9,6 @@ use Rattle.tb_event_loop.proofs.event_loop.EventLoop.round.Given as goal
 abbrev pub invariant-places : goal.invariant-places
 invariant-places g l = record {
   goes : Goes (Acts g.N.Sockets.follows g.V.Service.follows g.V.Service.owed_at) false l.fn.self.still_to_end l.self.still_to_end (l.fn.sockets, l.fn.service) (l.sockets, l.service);
-  each : VisitsEach g.N.Sockets.follows g.V.Service.follows g.V.Service.gives_file g.V.Service.held_at g.V.Service.owed_at (min l.fn.self.places.first l.fn.self.places.end) l.fn.self.places.end l.step (begun l.fn.self) l.self (l.fn.sockets, l.fn.service) (l.sockets, l.service);
+  each : VisitsEach g.N.Sockets.follows g.V.Service.follows g.V.Service.gives_file g.V.Service.held_at g.V.Service.owed_at g.V.Service.wants (min l.fn.self.places.first l.fn.self.places.end) l.fn.self.places.end l.step (begun l.fn.self) l.self (l.fn.sockets, l.fn.service) (l.sockets, l.service);
   first : l.self.places.first ≡ min l.fn.self.places.first l.fn.self.places.end;
 }

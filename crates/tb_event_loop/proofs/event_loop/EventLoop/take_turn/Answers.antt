@@ -7,7 +7,9 @@ use Rattle.tb_event_loop.specs.Rounds.{IsTurnOrEnd}
 use Rattle.tb_event_loop.specs.declared.places.Places.{Places}
 use Rattle.tb_event_loop.proofs.Acting.{acts_at_then}
 use Rattle.tb_event_loop.proofs.Doing.{leaves_none}
-use Rattle.tb_event_loop.proofs.Sparing.{spares_then}
+use Rattle.tb_event_loop.proofs.Noting.{holds_counted, holds_vacated}
+use Rattle.tb_event_loop.proofs.Serving.{on_any}
+use Rattle.tb_event_loop.proofs.Sparing.{spares_then, spares_vacated}
 use Rattle.tb_event_loop.proofs.Visiting.{turn_on, turn_then}
 use Rattle.tb_event_loop.proofs.event_loop.EventLoop.take_turn.Goals as goal
 
@@ -32,4 +34,11 @@ returns-clause-turn g c =
     c.in_ok-act.ensures.after c.in_ok-act.ensures.turned c.in_ok-act.ensures.written c.in_ok-act.ensures.heard c.leave.ensures.after
 
 pub returns-clause-spares : goal.returns-clause-spares
-returns-clause-spares g c = spares_then c.args.place c.args.self.now.places c.act.new.self c.leave.new.self.places c.in_ok-act.ensures.spares c.leave.ensures.spares
+returns-clause-spares g c = spares_then c.args.place c.args.self.now.places c.act.new.self c.leave.new.self.places c.in_ok-act.ensures.spares (spares_vacated c.args.place c.act.new.self c.leave.new.self.places c.leave.ensures.vacated)
+
+pub returns-then-not-is_gone-clause-held : goal.returns-then-not-is_gone-clause-held
+returns-then-not-is_gone-clause-held g c = holds_counted c.args.place c.args.self.now.places c.act.new.self c.act.ensures.counts
+
+pub returns-clause-held : goal.returns-clause-held
+returns-clause-held g c =
+    on_any c.leave.result (holds_vacated c.args.place c.args.self.now.places c.act.new.self c.leave.new.self.places c.act.ensures.counts c.leave.ensures.vacated)

@@ -10,7 +10,7 @@ returns-then-is_put_back-clause-visits g c =
     let is : c.is_put_back.result ≡ true = search rules in
     let old = c.args.self.now in
     let cut = c.is_put_back.ensures.cut ∙ ap (λ b. if b then with_cut old.places c.args.place else old.places) is in
-    next_put_back g.N.Sockets.follows g.V.Service.follows g.V.Service.gives_file g.V.Service.held_at g.V.Service.owed_at false c.args.place old (record old { places = c.is_put_back.new.self }) (c.args.sockets.now, c.args.service.now) (c.args.sockets.now, c.args.service.now)
+    next_put_back g.N.Sockets.follows g.V.Service.follows g.V.Service.gives_file g.V.Service.held_at g.V.Service.owed_at g.V.Service.wants false c.args.place old (record old { places = c.is_put_back.new.self }) (c.args.sockets.now, c.args.service.now) (c.args.sockets.now, c.args.service.now)
     (sym c.is_put_back.ensures.later ∙ is) refl refl (ap (λ (p : Places). record old { places = p }) cut)
 
 pub returns-clause-visits : goal.returns-clause-visits
@@ -18,5 +18,5 @@ returns-clause-visits g c =
     let isnt : c.is_put_back.result ≡ false = search rules in
     let old = c.args.self.now in
     let cut = c.is_put_back.ensures.cut ∙ ap (λ b. if b then with_cut old.places c.args.place else old.places) isnt in
-    next_visited g.N.Sockets.follows g.V.Service.follows g.V.Service.gives_file g.V.Service.held_at g.V.Service.owed_at (is_err c.visit.result) c.args.place old c.visit.new.self (c.args.sockets.now, c.args.service.now) (c.visit.new.sockets, c.visit.new.service)
+    next_visited g.N.Sockets.follows g.V.Service.follows g.V.Service.gives_file g.V.Service.held_at g.V.Service.owed_at g.V.Service.wants (is_err c.visit.result) c.args.place old c.visit.new.self (c.args.sockets.now, c.args.service.now) (c.visit.new.sockets, c.visit.new.service)
     (sym c.is_put_back.ensures.later ∙ isnt) (rw cut at c.visit.ensures.visits)

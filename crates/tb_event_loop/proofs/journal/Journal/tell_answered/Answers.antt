@@ -10,6 +10,7 @@ returns-clause-told g c =
     let front : AppendsFront (g.W.Write.contents c.now.new.self.errors) (g.W.Write.contents c.write_line.new.errors) c.deref-2.result.now = c.write_line.ensures.front in
     inr (record {
       entry = c.entry_of-entry.result;
+      missing = search rules;
       member = search rules;
       method = search rules;
       target = search rules;
