@@ -23,6 +23,11 @@ pub left_alone : (r : Result Ending OrderFault) (ended : Result Ending Fault) (P
 left_alone (Ok ending) ended P same is = tt
 left_alone (Err failed) ended P same is = IfErr-at_err P same is
 
+-- of an order that prints nothing
+pub printing_none : {E W : Type 0} (r : Result E Fault) (writer : W) (P : Fault → Type 0) → IfErr r P → IfErr r (λ fault. (writer ≡ writer) × P fault)
+printing_none (Ok x) writer P is = tt
+printing_none (Err fault) writer P is = (refl, is)
+
 -- whatever the fault is
 pub always : {A E : Type 0} (r : Result A E) (P : E → Type 0) → ((e : E) → P e) → IfErr r P
 always (Ok x) P is = tt

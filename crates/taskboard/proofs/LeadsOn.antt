@@ -8,11 +8,13 @@ use Rattle.sqlite.specs.Files.{HoldsDatabase, file_state}
 use Rattle.sqlite.specs.Held.{Held}
 use Rattle.sqlite.specs.State.{HasCleanDisk, State as Database}
 use Rattle.sqlite_disk.specs.declared.Disk.{Ghosts as DiskGhosts}
+use Rattle.sqlite_store.specs.Laws.{stays_at}
 use Rattle.sqlite_store.specs.declared.store.FileStore.{FileStore}
 use Rattle.sqlite_trees.specs.Tree.{Trees}
+use Rattle.sqlite_wal.proofs.LogLemmas.{SeenMayStay}
 use Rattle.sqlite_wal.specs.Recovery.{Image}
 use Rattle.taskboard.specs.Running.{IsServed}
-use Rattle.taskboard.specs.Serve.{LeadsOn, run_of}
+use Rattle.taskboard.specs.Serve.{EndsOn, LeadsOn, run_of}
 use Rattle.tb_calls.specs.Call.{State}
 use Rattle.tb_calls.specs.Leaving.{IsAfterSome}
 use Rattle.tb_calls.specs.declared.call.Call.{Call}
@@ -85,4 +87,14 @@ module _ {D : Type 0} {d : DiskGhosts D} (g : Ghosts (SqlKeep (FileStore D d))) 
       let r : Leads s (run_of g served) next =
       leads (has_stopped end) served.site s _ _ _ (g.holds new) (g.after_stop new) (file_state new.conn) (served.run.session s at clean_new) next opened.0
       (left.quiet.outcomes opened.0 opened.1) opened.2 in
+      r)
+
+  pub ends_on : SeenMayStay d → EndsOn g
+  ends_on stays order start next found old new files is begun served saved clean_then clean may s held =
+      let at = begun.at clean_then s (found_rows start found is clean_then s held) in
+      let copied = saved clean in
+      ∥∥₁_map (copied.left next may).both (λ holds.
+      let r : Leads s (run_of g served) next =
+      leads false served.site s _ _ _ (g.holds new) (g.after_stop new) (file_state new.conn) (served.run.session s at copied.was_clean) next
+      (file_state new.conn).committed.trees (stays_at new.conn.store stays copied.was_open) holds in
       r)

@@ -8,6 +8,8 @@ use Rattle.sqlite_disk.specs.declared.Files.{Files}
 use Rattle.sqlite_store.specs.FileStore.{view, state as store_state}
 use Rattle.sqlite_store.specs.declared.store.FileStore.{FileStore}
 use Rattle.sqlite_trees.specs.View.{IsClean}
+use Rattle.sqlite_wal.specs.Files.{outcomes}
+use Rattle.sqlite_wal.specs.Reads.{AreClean}
 use Rattle.sqlite_wal.specs.Recovery.{Image}
 use Rattle.taskboard.specs.Page.{IsPageOf}
 use Rattle.taskboard.specs.Running.{IsRun}
@@ -187,3 +189,12 @@ module _ {D : Type 0} {d : DiskGhosts D} (g : Ghosts (SqlKeep (FileStore D d))) 
       → IsFoundIn start found → IsBegun g found old → (served : IsServedBy g asks_machine order end old new)
       → IsGivenUp new.conn last → HasCleanDisk (file_state found) → IsClean (view last)
       → (store_state last).may_leave next → RunsTo start (run_of served) next
+
+  -- The same of a server that ended well and was saved: its run leads to whatever bytes a stop may leave of the two files then, where the disk
+  -- returned what was written to the end.
+  abbrev pub EndsOn : Type 0
+  EndsOn = (order : ServeOrder) (start next : Image)
+      (found : Held (FileStore D d)) (old new : SqlKeep (FileStore D d)) (files : Files D)
+      → IsFoundIn start found → IsBegun g found old → (served : IsServedBy g asks_machine order (Ok tt) old new)
+      → IsSaved new.conn files → HasCleanDisk (file_state found) → AreClean d files.log files.db
+      → outcomes d files.log files.db next → RunsTo start (run_of served) next

@@ -34,9 +34,11 @@ pub(crate) fn clean_into_file<S: Start, R: Read + Drop, W: Write>(
     writer: &mut W,
     start: S,
 ) -> Result<Ending, OrderFault>
-    ensures done { IfOk result (IsCleaned ⟦<SqlKeep<RealFile<S>> as Keep>⟧ (image_at S.Start) W.contents
+    ensures done { IfOk result (IsCleaned ⟦<SqlKeep<RealFile<S>> as Keep>⟧
+        (image_at S.Start) W.contents
         order.now (R.remaining reader) writer.old writer.new) }
-    ensures left { IfErr result (IsUncleaned ⟦<SqlKeep<RealFile<S>> as Keep>⟧ (image_at S.Start) W.contents
+    ensures left { IfErr result (IsUncleaned ⟦<SqlKeep<RealFile<S>> as Keep>⟧
+        (image_at S.Start) W.contents
         order.now (R.remaining reader) writer.old writer.new) }
     ensures fault { IfErr result (λ failed. is_of_imports failed.fault ≡ true) }
 {
@@ -75,9 +77,11 @@ fn bring<S: Start, W: Write>(
     writer: &mut W,
     start: S,
 ) -> Result<Ending, OrderFault>
-    ensures done { IfOk result (IsCleanedBy ⟦<SqlKeep<RealFile<S>> as Keep>⟧ (image_at S.Start) W.contents
+    ensures done { IfOk result (IsCleanedBy ⟦<SqlKeep<RealFile<S>> as Keep>⟧
+        (image_at S.Start) W.contents
         order.now.mode order.now.is_all order.now.import cleaned writer.old writer.new) }
-    ensures left { IfErr result (IsCutAfter ⟦<SqlKeep<RealFile<S>> as Keep>⟧ (image_at S.Start) W.contents
+    ensures left { IfErr result (IsCutAfter ⟦<SqlKeep<RealFile<S>> as Keep>⟧
+        (image_at S.Start) W.contents
         order.now.mode order.now.is_all order.now.import cleaned writer.old writer.new) }
     ensures fault { IfErr result (λ failed. is_of_imports failed.fault ≡ true) }
 {
@@ -136,9 +140,11 @@ fn bring_text<S: Start, W: Write>(
     writer: &mut W,
     start: S,
 ) -> Result<Ending, OrderFault>
-    ensures done { IfOk result (IsBrought ⟦<SqlKeep<RealFile<S>> as Keep>⟧ (image_at S.Start) W.contents
+    ensures done { IfOk result (IsBrought ⟦<SqlKeep<RealFile<S>> as Keep>⟧
+        (image_at S.Start) W.contents
         is_all order.now text.now writer.old writer.new) }
-    ensures left { IfErr result (IsUnbrought ⟦<SqlKeep<RealFile<S>> as Keep>⟧ (image_at S.Start) W.contents
+    ensures left { IfErr result (IsUnbrought ⟦<SqlKeep<RealFile<S>> as Keep>⟧
+        (image_at S.Start) W.contents
         is_all order.now text.now writer.old writer.new) }
     ensures fault { IfErr result (λ failed. is_of_imports failed.fault ≡ true) }
 {

@@ -49,10 +49,12 @@ pub(crate) fn view<S: Start, W: Write>(
     writer: &mut W,
     start: S,
 ) -> Result<Ending, OrderFault>
-    ensures shown { IfOk result (λ ending. BeginsSession ⟦<SqlKeep<RealFile<S>> as Keep>⟧ (image_at S.Start)
+    ensures shown { IfOk result (λ ending. BeginsSession ⟦<SqlKeep<RealFile<S>> as Keep>⟧
+        (image_at S.Start)
         (λ old. IsShown ⟦<SqlKeep<RealFile<S>> as Keep>⟧ (λ at. Unit {0}) order.now old
         (W.contents writer.old) (W.contents writer.new) ending)) }
-    ensures unshown { IfErr result (IsUnshown ⟦<SqlKeep<RealFile<S>> as Keep>⟧ (image_at S.Start) W.contents
+    ensures unshown { IfErr result (IsUnshown ⟦<SqlKeep<RealFile<S>> as Keep>⟧
+        (image_at S.Start) W.contents
         order.now writer.old writer.new) }
     ensures fault { IfErr result (λ failed. is_of_views failed.fault ≡ true) }
 {
@@ -68,9 +70,11 @@ pub(crate) fn check<S: Start, W: Write>(
     writer: &mut W,
     start: S,
 ) -> Result<Ending, OrderFault>
-    ensures checked { IfOk result (λ ending. BeginsSession ⟦<SqlKeep<RealFile<S>> as Keep>⟧ (image_at S.Start)
+    ensures checked { IfOk result (λ ending. BeginsSession ⟦<SqlKeep<RealFile<S>> as Keep>⟧
+        (image_at S.Start)
         (λ old. IsChecked old (W.contents writer.old) (W.contents writer.new) ending)) }
-    ensures unchecked { IfErr result (IsUnchecked ⟦<SqlKeep<RealFile<S>> as Keep>⟧ (image_at S.Start) W.contents
+    ensures unchecked { IfErr result (IsUnchecked ⟦<SqlKeep<RealFile<S>> as Keep>⟧
+        (image_at S.Start) W.contents
         writer.old writer.new) }
     ensures fault { IfErr result (λ failed. is_of_checking failed.fault ≡ true) }
 {
@@ -86,9 +90,11 @@ pub(crate) fn give_key<S: Start, R: Read + Drop, W: Write>(
     writer: &mut W,
     start: S,
 ) -> Result<Ending, Fault>
-    ensures given { IfOk result (IsKeyGiven ⟦<SqlKeep<RealFile<S>> as Keep>⟧ (image_at S.Start) (λ at. Unit {0})
+    ensures given { IfOk result (IsKeyGiven ⟦<SqlKeep<RealFile<S>> as Keep>⟧
+        (image_at S.Start) (λ at. Unit {0})
         order.now (R.remaining reader) (W.contents writer.old) (W.contents writer.new)) }
-    ensures failed { IfErr result (IsKeyFailed ⟦<SqlKeep<RealFile<S>> as Keep>⟧ (image_at S.Start) W.contents
+    ensures failed { IfErr result (IsKeyFailed ⟦<SqlKeep<RealFile<S>> as Keep>⟧
+        (image_at S.Start) W.contents
         (λ at. Unit {0}) order.now (R.remaining reader) writer.old writer.new) }
     ensures silent { IfErr result (λ fault. may_print fault ≡ false → writer.new ≡ writer.old) }
     ensures fault { IfErr result (λ fault. is_of_keys fault ≡ true) }

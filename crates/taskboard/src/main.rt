@@ -181,7 +181,8 @@ fn run_script<R: Read + Drop, W: Write>(
         × IfSome reader.old.left
         (λ script. Appends (W.contents writer.old) (W.contents writer.new) (script_text script))) }
     ensures front { OnErr result (IfSome reader.old.left
-        (λ script. AppendsFront (W.contents writer.old) (W.contents writer.new) (script_text script))) }
+        (λ script. AppendsFront (W.contents writer.old) (W.contents writer.new)
+        (script_text script))) }
     ensures fault { IfErr result (λ fault. is_of_scripts fault ≡ true) }
     ensures no_store { result ≢ Err Store }
     ensures unread { IfErr result (λ fault. fault ≡ ReadFailed → IsSpent reader.new) }

@@ -4,7 +4,7 @@ ghost use Rattle.sqlite.specs.State.{HasCleanDisk};
 ghost use Rattle.sqlite_wal.specs.Files.{image_at};
 ghost use Rattle.tb_sql_tables.specs.Failing.{IsAtRest};
 ghost use Rattle.std.specs.Io.KnownBytes.{Appends};
-ghost use Rattle.std.specs.Prelude.{◌≡◌, false, IfErr, IfOk, Ok, OnErr, OnOk, true};
+ghost use Rattle.std.specs.Prelude.{◌≡◌, false, IfErr, IfOk, None, Ok, OnErr, OnOk, true};
 ghost use Rattle.tb_files.specs.Failed.{IsUnopened};
 ghost use Rattle.tb_files.specs.File.{IsBegun, IsFoundIn, IsSaved, IsUnsaved};
 ghost use Rattle.tb_files.specs.GivenUp.{IsGivenUp};
@@ -14,6 +14,7 @@ ghost use Rattle.tb_orders.specs.Faults.{is_of_files, is_of_opening};
 ghost use Rattle.tb_orders.specs.Items.{fault_alone};
 ghost use Rattle.tb_program.specs.declared.fault.Fault.TheVariants.{Store, WriteFailed};
 ghost use Rattle.tb_values.specs.Appends.{AppendsFront};
+ghost use Rattle.tb_wal.specs.Looking.{IsFound};
 
 use crate::fault::fault_of_opening;
 use crate::not_done::Untaken;
@@ -29,7 +30,7 @@ use tb_keeper::SqlKeep;
 use tb_orders::{Ending, OrderFault};
 use tb_program::{Fault, print_line, print_text};
 use tb_sql::opening::Version;
-use tb_wal::{MachineBeside, find_log_fault};
+use tb_wal::{Beside, MachineBeside, find_log_fault};
 
 /// The mode of a file that its owner alone may read and write.
 const PRIVATE: u32 = 0o600;
@@ -56,11 +57,7 @@ pub fn open_file<S: Start>(
     if fs::metadata(rt, path).is_err() {
         return Err(Fault::Store);
     }
-    look_at_log(rt, path)?;
-    match Connection::open_from(rt, path, false, start) {
-        Ok(conn) => take_opened(conn),
-        Err((error, _)) => Err(fault_of(error)),
-    }
+    open_beside(rt, &MachineBeside::new(rt, path), path, false, start)
 }
 
 /// Opens the file at a path, or makes an empty one with sums of its pages, which its owner alone may read and write.
@@ -72,18 +69,37 @@ pub fn open_new_file<S: Start>(
     ensures fault { IfErr result (λ fault. is_of_files fault ≡ true) }
     ensures found { IfOk result (IsFoundIn (image_at S.Start)) }
 {
-    look_at_log(rt, path)?;
-    make_private(rt, path);
-    match Connection::open_from(rt, path, true, start) {
+    open_beside(rt, &MachineBeside::new(rt, path), path, true, start)
+}
+
+/// Opens a file, or makes it where that is wanted, once the log beside it was looked at.
+fn open_beside<B: Beside, S: Start>(
+    rt: &HostRuntime,
+    beside: &B,
+    path: &str,
+    makes: bool,
+    start: S,
+) -> Result<Connection<RealFile<S>>, Fault>
+    ensures looked { OnOk result (IsFound (B.shows beside.now) None) }
+    ensures found { IfOk result (IsFoundIn (image_at S.Start)) }
+    ensures fault { IfErr result (λ fault. is_of_files fault ≡ true) }
+{
+    look_at_log(beside)?;
+    if makes {
+        make_private(rt, path);
+    }
+    match Connection::open_from(rt, path, makes, start) {
         Ok(conn) => take_opened(conn),
         Err((error, _)) => Err(fault_of(error)),
     }
 }
 
-fn look_at_log(rt: &HostRuntime, path: &str) -> Result<(), Fault>
-    ensures { IfErr result (λ fault. is_of_files fault ≡ true) }
+/// Refuses a file with a log that belongs to another one, or is damaged.
+fn look_at_log<B: Beside>(beside: &B) -> Result<(), Fault>
+    ensures looked { OnOk result (IsFound (B.shows beside.now) None) }
+    ensures fault { IfErr result (λ fault. is_of_files fault ≡ true) }
 {
-    match find_log_fault(&MachineBeside::new(rt, path)) {
+    match find_log_fault(beside) {
         Ok(None) => Ok(()),
         Ok(Some(_)) => Err(Fault::Store),
         Err(_) => Err(Fault::Memory),

@@ -34,7 +34,8 @@ pub fn import_into_file<S: Start, R: Read + Drop, C: Clock, W: Write>(
     ensures imported { IfOk result (IsImported ⟦<SqlKeep<RealFile<S>> as Keep>⟧ (image_at S.Start)
         (GaveOne C.gives clock.old clock.new)
         order.now (R.remaining reader) (W.contents writer.old) (W.contents writer.new)) }
-    ensures failed { IfErr result (λ failed. IsImportFailed ⟦<SqlKeep<RealFile<S>> as Keep>⟧ (image_at S.Start) W.contents
+    ensures failed { IfErr result (λ failed. IsImportFailed ⟦<SqlKeep<RealFile<S>> as Keep>⟧
+        (image_at S.Start) W.contents
         (GaveOne C.gives clock.old clock.new) order.now (R.remaining reader)
         writer.old writer.new failed.fault) }
     ensures silent { IfErr result
@@ -96,10 +97,12 @@ pub fn import_parts_into_file<S: Start, R: Read + Drop, C: Clock, W: Write>(
     writer: &mut W,
     start: S,
 ) -> Result<Ending, OrderFault>
-    ensures imported { IfOk result (IsImportedInParts ⟦<SqlKeep<RealFile<S>> as Keep>⟧ (image_at S.Start)
+    ensures imported { IfOk result (IsImportedInParts ⟦<SqlKeep<RealFile<S>> as Keep>⟧
+        (image_at S.Start)
         (GaveOne C.gives clock.old clock.new)
         order.now (R.remaining reader) (W.contents writer.old) (W.contents writer.new)) }
-    ensures failed { IfErr result (λ failed. IsRunFailed ⟦<SqlKeep<RealFile<S>> as Keep>⟧ (image_at S.Start) W.contents
+    ensures failed { IfErr result (λ failed. IsRunFailed ⟦<SqlKeep<RealFile<S>> as Keep>⟧
+        (image_at S.Start) W.contents
         (GaveOne C.gives clock.old clock.new) order.now (R.remaining reader)
         writer.old writer.new failed.fault) }
     ensures silent { IfErr result

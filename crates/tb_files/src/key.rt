@@ -30,7 +30,8 @@ pub fn give_key_in_file<S: Start, R: Read + Drop, C: Clock, W: Write>(
     ensures given { IfOk result (IsKeyGiven ⟦<SqlKeep<RealFile<S>> as Keep>⟧ (image_at S.Start)
         (GaveOne C.gives clock.old clock.new) order.now (R.remaining reader)
         (W.contents writer.old) (W.contents writer.new)) }
-    ensures failed { IfErr result (IsKeyFailed ⟦<SqlKeep<RealFile<S>> as Keep>⟧ (image_at S.Start) W.contents
+    ensures failed { IfErr result (IsKeyFailed ⟦<SqlKeep<RealFile<S>> as Keep>⟧
+        (image_at S.Start) W.contents
         (GaveOne C.gives clock.old clock.new) order.now (R.remaining reader)
         writer.old writer.new) }
     ensures silent { IfErr result (λ fault. may_print fault ≡ false → writer.new ≡ writer.old) }

@@ -50,7 +50,8 @@ pub fn import_input<K: Keep, R: Read + Drop, C: Clock, W: Write>(
         → K.holds desk.new s }
     ensures does { (s : State) → K.holds desk.old s → Only s (K.after_stop desk.old)
         → Does (GaveOne C.gives clock.old clock.new) order.now (reader.old.left) s
-        (end_of result) (K.is_honest desk.new) (K.holds desk.new) (K.after_stop desk.new) (W.contents writer.old) (W.contents writer.new) }
+        (end_of result) (K.is_honest desk.new) (K.holds desk.new) (K.after_stop desk.new)
+        (W.contents writer.old) (W.contents writer.new) }
     ensures silent { IfErr (end_of result)
         (λ fault. fault ≢ WriteFailed → writer.new ≡ writer.old) }
     ensures timeless { IsErrOf (end_of result) NoClock → C.gives (None ∷ []) clock.old clock.new }

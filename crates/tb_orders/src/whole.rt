@@ -46,7 +46,8 @@ pub fn import_all<K: Keep, R: Read + Drop, C: Clock, W: Write>(
 ) -> Result<Ending, OrderFault>
     ensures run { (s : State) → K.holds desk.old s → Only s (K.after_stop desk.old)
         → IsRunOf (GaveOne C.gives clock.old clock.new) order.now (reader.old.left) s
-        (end_of result) (K.is_honest desk.new) (K.holds desk.new) (K.after_stop desk.new) (W.contents writer.old) (W.contents writer.new) }
+        (end_of result) (K.is_honest desk.new) (K.holds desk.new) (K.after_stop desk.new)
+        (W.contents writer.old) (W.contents writer.new) }
     ensures unread { IfErr (end_of result) (λ fault. is_unread fault ≡ true
         → (desk.new ≡ desk.old) × (writer.new ≡ writer.old)) }
     ensures timeless { IsErrOf (end_of result) NoClock → C.gives (None ∷ []) clock.old clock.new }

@@ -2,7 +2,7 @@ use Rattle.std.proofs.Common.{refl, subst}
 use Rattle.std.proofs.lemmas.Result.{IfErr-weaker, IfOk-weaker}
 use Rattle.std.specs.Io.KnownBytes.{Appends}
 use Rattle.tb_values.specs.Appends.{AppendsFront}
-use Rattle.taskboard.proofs.Handed.{all_three, always, both, done_alone, left_alone, of_any}
+use Rattle.taskboard.proofs.Handed.{all_three, always, both, done_alone, left_alone, of_any, printing_none}
 use Rattle.taskboard.proofs.carry_out.Goals as goal
 
 pub returns-in-Init-clause-done : goal.returns-in-Init-clause-done
@@ -103,7 +103,7 @@ returns-in-Init-clause-left g c = rw c.in-Init.is (IfErr-weaker c.init.result _ 
 pub returns-in-Serve-clause-left : goal.returns-in-Serve-clause-left
 returns-in-Serve-clause-left g c =
     rw c.in-Serve.is (left_alone c.alone.result c.serve_file.result _ c.alone.ensures.fault
-    (IfErr-weaker c.serve_file.result _ _ (λ fault failed. (refl, failed)) c.serve_file.ensures.failed))
+    (printing_none c.serve_file.result c.args.writer.now _ c.serve_file.ensures.failed))
 
 pub returns-in-Import-clause-left : goal.returns-in-Import-clause-left
 returns-in-Import-clause-left g c =

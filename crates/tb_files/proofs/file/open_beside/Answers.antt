@@ -1,7 +1,7 @@
 use Rattle.std.proofs.Common.{subst, sym}
 use Rattle.std.proofs.lemmas.Result.{IfOk-weaker}
 use Rattle.tb_files.specs.File.{IsFoundIn}
-use Rattle.tb_files.proofs.file.open_file.Goals as goal
+use Rattle.tb_files.proofs.file.open_beside.Goals as goal
 
 pub returns-in-Ok-clause-found : goal.returns-in-Ok-clause-found
 returns-in-Ok-clause-found g c =
