@@ -4,15 +4,15 @@
 // A browser asks for the worker at each start, and a page that stays open every few minutes; it is installed anew where a byte of it differs. The
 // next line, made by tests/page/page_content.py, differs with every other file, so a new version is found then, also where its files are as long as
 // before.
-// Content of the other files: 15663c95ca9f5f80c38a4238d91e253dab5950143d9cbcac40d5b4e12be240ea
+// Content of the other files: 55e9e9d166936b5ebc4992d21b83c7334a7d87f664eb8cc1bf1c67eee7cea9cf
 
 const VERSION = "taskboard ";
-const FILE = /^\/(?:[a-z0-9_.-]+\.(?:html|css|js|svg|png|ico))?$/;
+const FILE = /^\/(?:(?:[a-z0-9_-]+\/)?[a-z0-9_.-]+\.(?:html|css|js|svg|png|ico))?$/;
 // Where a version has the moment when it was last compared with the server's files whole, and how long that lasts, in milliseconds.
 const COMPARED = "/kept/compared";
 const DAY = 86400000;
-// Which files a file names: those of the page, and the modules that a module imports.
-const NAMES = /(?:\b(?:href|src)="|\b(?:from|import)[ (]?"\.\/)([a-z0-9_.-]+)"/g;
+// Which files a file names: those of the page, and the modules that a module imports, each from where it stands.
+const NAMES = /(?:\b(?:href|src)="|\b(?:from|import)[ (]?"(?=\.))([a-z0-9_./-]+)"/g;
 const MARKS = ["etag", "last-modified", "content-length"];
 
 // Which version each window was opened with, so that it never gets a module of another one.
@@ -28,7 +28,7 @@ async function load(path) {
 
 function namedBy({ path, bytes }) {
     if (path !== "/" && !path.endsWith(".js")) return [];
-    return [...new TextDecoder().decode(bytes).matchAll(NAMES)].map(([, name]) => `/${name}`);
+    return [...new TextDecoder().decode(bytes).matchAll(NAMES)].map(([, name]) => new URL(name, location.origin + path).pathname);
 }
 
 // All files as the server has them, from the first on, and the name of that version.
@@ -39,7 +39,7 @@ async function loadAll() {
         for (const file of loaded) files.set(file.path, file);
         wanted = [...new Set(loaded.flatMap(namedBy))].filter((path) => FILE.test(path) && !files.has(path));
     }
-    if (!files.has("/main.js")) throw new Error("what came isn't the page");
+    if (!files.has("/views/main.js")) throw new Error("what came isn't the page");
     const inOrder = [...files.values()].sort((one, other) => (one.path < other.path ? -1 : 1));
     const parts = inOrder.flatMap(({ path, bytes }) => [`${path} ${bytes.byteLength}\n`, bytes]);
     const digest = await crypto.subtle.digest("SHA-256", await new Blob(parts).arrayBuffer());

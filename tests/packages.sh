@@ -15,6 +15,8 @@ sqlite3 sqlite3
 strace strace
 cc gcc libc6-dev
 nginx nginx
+node nodejs
+tsc node-typescript
 openssl openssl
 sshd openssh-server
 task taskwarrior

@@ -20,6 +20,7 @@ import page_files
 import page_history
 import page_judging
 import page_keys
+import page_look
 import page_several
 import page_views
 import page_words
@@ -110,7 +111,7 @@ def first_steps(office):
 def by_keyboard(browser):
     """Completes the second task by keys alone, and takes that back."""
     browser.run("document.querySelector('#list .open').focus()")
-    browser.press(DOWN, "d")
+    browser.press(DOWN, "e")
     browser.wait("return document.querySelectorAll('#list .row').length === 2")
     browser.wait(ALL_ANSWERED)
     expect("done", "completed", tasks(1)[1]["status"])
@@ -182,18 +183,18 @@ def killed_server(office):
     browser.type("#add-line", "Acts before the kill" + ENTER)
     relay.lost.wait(browser.patience)
     office.server.end()
-    browser.wait(IS_TOLD, "1 change isn't answered yet")
+    browser.wait(IS_TOLD, "1 change waits here")
     browser.type("#add-line", "Is made while nobody is there" + ENTER)
-    browser.wait(IS_TOLD, "2 changes aren't answered yet")
+    browser.wait(IS_TOLD, "2 changes wait here")
     browser.run("document.querySelector('#list .tick').click()")
-    browser.wait(IS_TOLD, "3 changes aren't answered yet")
+    browser.wait(IS_TOLD, "3 changes wait here")
     browser.click("#state")
     office.shot("unanswered")
     office.start()
     relay.break_off(LOSES_POSTS)
     browser.open("about:blank")
     browser.open(office.address)
-    browser.wait(IS_TOLD, "3 changes aren't answered yet")
+    browser.wait(IS_TOLD, "3 changes wait here")
     expect("before they are sent again", 1, descriptions(1).count("Acts before the kill"))
     relay.heal()
     browser.run("dispatchEvent(new Event('online'))")
@@ -222,13 +223,13 @@ def two_tabs(office):
     browser.type("#add-line", "First" + ENTER)
     browser.new_tab()
     office.enter("ann")
-    browser.wait(IS_TOLD, "1 change isn't answered yet")
+    browser.wait(IS_TOLD, "1 change waits here")
     browser.type("#add-line", "Second" + ENTER)
-    browser.wait(IS_TOLD, "2 changes aren't answered yet")
+    browser.wait(IS_TOLD, "2 changes wait here")
     other = browser.call("GET", "/window")
     browser.to_tab(anns)
     browser.type("#add-line", "Third" + ENTER)
-    browser.wait(IS_TOLD, "3 changes aren't answered yet")
+    browser.wait(IS_TOLD, "3 changes wait here")
     relay.heal()
     browser.run("dispatchEvent(new Event('online'))")
     browser.wait(ALL_ANSWERED)
@@ -458,7 +459,7 @@ def last_steps(office):
     browser.click("#sign-out")
     browser.wait("return document.getElementById('sign-in-form').offsetParent")
     expect("what is kept but filters", [[], []], browser.run("return [sessionStorage, localStorage].map((place) => Object.keys(place).filter((key) => !/ (filters|looked)$/.test(key)))"))
-    kept = browser.run("return JSON.stringify({ ...localStorage })")
+    kept = browser.run(page_words.DEVICE)
     expect("the key, and what was searched for", [False, False], [KEYS["ann"] in kept, "text=" in kept])
     told = [message for message in browser.messages() if "Failed to load resource" not in message]
     expect("faults", [], told)
@@ -470,6 +471,7 @@ SCENES = (
     *page_files.SCENES,
     *page_judging.SCENES,
     *page_views.SCENES,
+    *page_look.SCENES,
     *page_several.SCENES,
     *page_day.SCENES,
     *page_words.SCENES,

@@ -110,16 +110,22 @@ def full_board(office):
     browser.run("[...document.querySelectorAll('#notices button')].at(-1).click()")
 
 
+# Once the board has a deleted task.
+ARE_DELETED = """const { name, key } = JSON.parse(sessionStorage.getItem("taskboard.session") ?? localStorage.getItem("taskboard.session"));
+return fetch(arguments[0], { headers: { "x-member": name, "x-key": key } }).then((answer) => answer.json()).then((tasks) => tasks.some(({ status }) => status === "deleted"));"""
+
+
 def made_to_repeat(office):
-    """An existing task gets other dates, and is made to repeat: another takes its place, with its notes and links."""
+    """An existing task gets other dates, and is made to repeat: another takes its place, with its notes and links, and those of what waits for it."""
     browser, board = office.browser, new_board("Becoming")
     first = add(board, description="Water the plants", due="20991231T000000Z", depends=[add(board, description="Buy a can")], assignee="ann")
     tell(f"/boards/{board}/tasks/{first}/annotate", description="Little")
+    add(board, description="Go away for a week", depends=[first])
     office.begin(board)
     office.go(board, "tasks", first)
     browser.wait("return document.getElementById('edit')?.checkVisibility()")
     browser.click("#edit")
-    for name, day in (("Scheduled", "2099-12-01"), ("Until", "2100-06-30")):
+    for name, day in (("Planned for", "2099-12-01"), ("Until", "2100-06-30")):
         browser.run("const field = document.querySelector(`#edit-fields [aria-label='${arguments[0]}: day']`); field.value = arguments[1]; field.dispatchEvent(new Event('input', { bubbles: true }))", name, day)
     browser.click("#edit-form .primary")
     browser.wait("return document.getElementById('task-facts').textContent.includes('1 Dec 2099') && document.getElementById('task-facts').textContent.includes('30 Jun 2100')")
@@ -134,8 +140,12 @@ def made_to_repeat(office):
     browser.click("#edit")
     browser.wait(IS_TOLD, "Those that are there stay as they are.")
     browser.click("#cancel-edit")
+    browser.wait(ARE_DELETED, f"/boards/{board}/export")
     stored = [task for task in tasks(board) if task["description"] == "Water the plants"]
     expect("statuses", ["deleted", "recurring", "pending"], [task["status"] for task in stored])
+    [waiting] = [task for task in tasks(board) if task["description"] == "Go away for a week"]
+    expect("what waits for it", [stored[2]["uuid"]], waiting["depends"])
+    expect("what the first new task continues", True, any(first in note["description"] for note in stored[2]["annotations"]))
     members = ("recur", "due", "scheduled", "until", "assignee", "depends")
     expect("the repeating task", ["monthly", "20991231T000000Z", "20991201T000000Z", "21000630T000000Z", "ann", stored[0]["depends"]], [stored[1][name] for name in members])
     expect("its notes", ["Little"], [note["description"] for note in stored[1]["annotations"]])

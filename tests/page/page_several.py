@@ -23,6 +23,7 @@ def press(browser, *keys, held=""):
 def pick(browser, *texts, of=0):
     """Chooses rows by their boxes, beside those that are chosen already."""
     if not browser.run("return document.getElementById('list').classList.contains('choosing')"):
+        browser.click("#more")
         browser.click("#choose")
     for count, text in enumerate(texts, of + 1):
         browser.run("[...document.querySelectorAll('#list .row')].find((row) => row.querySelector('.open').textContent === arguments[0]).querySelector('.choose').click()", text)
@@ -58,7 +59,7 @@ def several(office):
     browser.wait(ARE_LISTED, shown)
     browser.wait(ALL_ANSWERED)
     expect("taken back", ["pending"] * 4, of_all(board, "status"))
-    expect("the way back afterwards", "", browser.run("return document.getElementById('toast').textContent"))
+    expect("the ways that are offered afterwards", ["Redo", "Close"], browser.run("return [...document.querySelectorAll('#toast button')].map((button) => button.textContent)"))
     pick(browser, "Alpha", "Beta")
     browser.run(CHANGE, "bulk-assign", "bob")
     browser.wait(IS_TOLD, "Assigned to bob: 2 tasks")
@@ -127,7 +128,7 @@ def back_unheard(office):
     browser.type("#bulk-form input", "House" + ENTER)
     browser.wait(IS_TOLD, "Project set: 2 tasks")
     browser.click("#toast button")
-    browser.wait(IS_TOLD, "4 changes aren't answered yet")
+    browser.wait(IS_TOLD, "4 changes wait here")
     browser.wait(WAITED, 4)
     office.relay.heal()
     browser.run("dispatchEvent(new Event('online'))")
@@ -168,7 +169,7 @@ def many_wait(office):
 
 # Keeps so many new tasks on the device, each by itself, as many of them as there are of a list that was pasted.
 ADD_MANY = """const [board, count] = arguments;
-return Promise.all([import("./sending.js"), import("./changes.js")])
+return Promise.all([import("/sync/outbox.js"), import("/core/calls.js")])
     .then(([{ keepEach }, { changes }]) => keepEach(Array.from({ length: count }, (_, at) => changes.add(board, { description: `Task ${at}` }))));"""
 ARE_ON_DEVICE = """return new Promise((done) => {
     indexedDB.open("taskboard").onsuccess = ({ target }) => {
@@ -198,7 +199,7 @@ def counted_waiting(office):
     office.begin(board)
     office.relay.break_off(LOSES_POSTS)
     browser.run(ADD_MANY, board, 1020)
-    browser.wait(IS_TOLD, "1,020 changes aren't answered yet")
+    browser.wait(IS_TOLD, "1,020 changes wait here")
     browser.click("#state")
     browser.wait(IS_TOLD, "and 1,000 more")
     browser.click("#sign-out")
@@ -219,7 +220,7 @@ def many_refused(office):
     for role, press_at, left in (("member", "Send 30 again", 30), ("reader", "Throw all away", 30)):
         office.relay.break_off(LOSES_POSTS)
         browser.run(ADD_MANY, board, 30)
-        browser.wait(IS_TOLD, "30 changes aren't answered yet")
+        browser.wait(IS_TOLD, "30 changes wait here")
         tell(f"/boards/{board}/roles", member="bob", role="reader")
         office.relay.heal()
         browser.run("dispatchEvent(new Event('online'))")
@@ -242,7 +243,7 @@ def hundreds_wait(office):
     office.begin(board)
     office.relay.break_off(LOSES_POSTS)
     browser.run(ADD_MANY, board, count)
-    browser.wait(IS_TOLD, f"{count} changes aren't answered yet")
+    browser.wait(IS_TOLD, f"{count} changes wait here")
     browser.wait(WAITED, count)
     browser.run(COUNTED)
     browser.type("#add-line", "One more" + ENTER)
@@ -281,12 +282,12 @@ def moves(office):
     relay.break_off(LOSES_ANSWERS)
     move(browser, there)
     relay.lost.wait(browser.patience)
-    browser.wait(IS_TOLD, "4 changes aren't answered yet")
+    browser.wait(IS_TOLD, "4 changes wait here")
     browser.open("about:blank")
     expect("after the stop", [["Ground"], ["pending"] * 3], [of_all(there, "description"), of_all(board, "status")])
     relay.break_off(LOSES_POSTS)
     browser.open(f"{office.address}#/{board}/tasks")
-    browser.wait(IS_TOLD, "4 changes aren't answered yet")
+    browser.wait(IS_TOLD, "4 changes wait here")
     relay.heal()
     browser.run("dispatchEvent(new Event('online'))")
     browser.wait(ALL_ANSWERED)
