@@ -1,4 +1,4 @@
-//! Plays scenes, each over boards of its own: over lists in every way, and over a keeper as they are.
+//! Plays scenes, each over lists of its own, in every way.
 
 use crate::at_once::play_in_all_orders;
 use crate::ends::{Narrow, Pieces};
@@ -6,8 +6,7 @@ use crate::lines::compare;
 use crate::owner::Owner;
 use crate::scene::{Connection, Way};
 use std::io;
-use tb_calls::Keep;
-use tb_desk::Desk;
+use tb_desk::{Desk, ListKeep};
 use tb_serve::{ListClock, ServeEnd, serve_reader};
 use tb_site::Paths;
 
@@ -26,24 +25,11 @@ pub fn play_over_lists(owner: &Owner, scene: &[Connection<'_>]) -> io::Result<us
     Ok(0)
 }
 
-/// Plays a scene over a keeper, with bytes that all come at once.
-pub fn play_whole<K: Keep + Drop>(
-    owner: &Owner,
-    scene: &[Connection<'_>],
-    keep: K,
-) -> io::Result<()> {
-    let [first, ..] = scene else {
-        return Ok(());
-    };
-    let paths = first.paths(owner.alloc)?;
-    play(owner, &paths, &mut Desk::new(keep), scene, first.whole()?)
-}
-
 /// Plays the connections of a scene, the first in this way.
-fn play<K: Keep>(
+fn play(
     owner: &Owner,
     paths: &Paths,
-    desk: &mut Desk<K>,
+    desk: &mut Desk<ListKeep>,
     scene: &[Connection<'_>],
     way: Way,
 ) -> io::Result<()> {
@@ -57,11 +43,11 @@ fn play<K: Keep>(
 
 impl Connection<'_> {
     /// Serves it at its moments.
-    fn play<K: Keep>(
+    fn play(
         &self,
         owner: &Owner,
         paths: &Paths,
-        desk: &mut Desk<K>,
+        desk: &mut Desk<ListKeep>,
         way: Way,
     ) -> io::Result<()> {
         let bytes = self.sent.get(..way.len).unwrap_or(b"");

@@ -16,7 +16,7 @@ mod tables;
 
 use files::FrailMemory;
 use std::io;
-pub use store::{answer_in, play_in_memory};
+pub use store::answer_in;
 use test_scenes::Owner;
 
 /// Takes the steps of a file. What is told of them, with the lines for readers, has to be the file.

@@ -10,8 +10,8 @@ use tb_keeper::first_version::create_v1;
 use tb_keeper::{CreateFault, SqlKeep};
 use tb_script::{Watched, run_lines_on};
 use tb_sql::opening::{OpenFault, is_empty};
+use test_scenes::Owner;
 use test_scenes::lines::ended;
-use test_scenes::{Owner, play_whole};
 
 /// A store, or the database without one and the word for why.
 pub(crate) type Opened<S> = Result<SqlKeep<S>, (Connection<S>, &'static str)>;
@@ -82,12 +82,6 @@ fn keep_in<S: Alter + Drop>(owner: &Owner, conn: Connection<S>) -> io::Result<Sq
         Ok(keep) => Ok(keep),
         Err((_, word)) => Err(io::Error::other(word)),
     }
-}
-
-/// Plays a scene over a new store in memory.
-pub fn play_in_memory(owner: &Owner, scene: &[test_scenes::Connection<'_>]) -> io::Result<()> {
-    let conn = Connection::open_in_memory(owner.alloc)?;
-    play_whole(owner, scene, keep_in(owner, conn)?)
 }
 
 /// Answers lines over the store that the file of that name holds, or a new one where there is none, or for `--memory` in memory.

@@ -1,13 +1,12 @@
-//! Scripts, each answered in every way.
+//! Scripts, each answered over stores.
 
 use std::alloc::AllocError;
 use std::{fs, io};
-use tb_script::{Watched, run_lines};
-use test_scenes::lines::{compare, ended, unreadable};
-use test_scenes::{Owner, answer_through_break};
+use test_scenes::Owner;
+use test_scenes::lines::{compare, unreadable};
 use test_stores::{answer_in, stop_at_some, stop_each};
 
-/// A script of more bytes is answered over lists and over a store in memory alone.
+/// A script of more bytes is answered over a store in memory alone.
 const MOST_BYTES: usize = 8192;
 
 /// A script of more bytes isn't sent over files that stop.
@@ -38,10 +37,6 @@ pub fn run(rt: &HostRuntime, owner: &Owner, name: &str) -> io::Result<String> {
     case.answer_in_memory(rt)?;
     if case.script.len() <= MOST_BYTES {
         case.answer_by_line(rt)?;
-        let calls = format!(in owner.alloc; "{}\n", case.answer_through_breaks()?)?;
-        if let Ok(wanted) = fs::read(rt, format!(in owner.alloc; "{name}.calls")?) {
-            compare(owner.alloc, wanted.as_slice(), calls.as_bytes())?;
-        }
     }
     if case.script.len() <= MOST_STOPPED {
         let lines = lines_of(owner, case.script.as_slice())?;
@@ -66,14 +61,9 @@ fn lines_of<'s>(owner: &Owner, script: &'s [u8]) -> io::Result<Vec<&'s str>> {
 }
 
 impl Case<'_> {
-    /// Over lists, and over a store in memory.
+    /// Over a store in memory.
     fn answer_in_memory(&self, rt: &HostRuntime) -> io::Result<()> {
-        let script = self.script.as_slice();
-        let mut lines = Watched::new(script);
-        let mut answers = Vec::new(self.owner.alloc);
-        ended(run_lines(self.owner.alloc, &mut lines, &mut answers))?;
-        self.expect("over lists", answers.as_slice())?;
-        let answers = answer_in(rt, self.owner, "--memory", script)?;
+        let answers = answer_in(rt, self.owner, "--memory", self.script.as_slice())?;
         self.expect("over memory", answers.as_slice())
     }
 
@@ -87,26 +77,6 @@ impl Case<'_> {
         }
         remove_store(rt);
         self.expect("over a file", answers.as_slice())
-    }
-
-    /// Lets the store fail at its first call, at its second, and so on, up to the first that the script doesn't come to.
-    fn answer_through_breaks(&self) -> io::Result<u64> {
-        let lines = self.lines()?;
-        for calls in 0..u64::MAX {
-            let fails = self.answer_through_break(lines.as_slice(), calls, false)?;
-            let fails_late = self.answer_through_break(lines.as_slice(), calls, true)?;
-            if !fails || !fails_late {
-                return Ok(calls);
-            }
-        }
-        Ok(u64::MAX)
-    }
-
-    /// Whether the script comes to the call at which its store fails.
-    fn answer_through_break(&self, lines: &[&[u8]], calls: u64, stands: bool) -> io::Result<bool> {
-        let (answers, fails) = answer_through_break(self.owner, lines, calls, stands)?;
-        self.expect("over a store that fails", answers.as_slice())?;
-        Ok(fails)
     }
 
     fn expect(&self, way: &str, answers: &[u8]) -> io::Result<()> {
