@@ -351,13 +351,15 @@ async function noteVainTry() {
 // Takes an answer down before the next change is sent.
 async function settle(who, change, answer) {
     const { status, body } = answer;
-    if (body.more) await device.put([toKeep(making.sweep(change.board), "", change.member)]);
+    // A full board has more to make for ever.
+    const hasMore = body.more && body.added > 0;
+    if (hasMore) await device.put([toKeep(making.sweep(change.board), "", change.member)]);
     const behind = status === 200 ? [] : [...held.values()].filter((other) => change.group && other.group === change.group && other.order > change.order);
     const left = await afterAnswer(who, change, answer, behind);
     const gone = left ? (left.state === "refused" ? behind : []) : [change];
     const done = { edits: left ? [{ order: change.order, ...left }] : [], gone: gone.map(({ order }) => order) };
     await device.edit(done.edits, gone);
-    if (body.more) await readNew();
+    if (hasMore) await readNew();
     const news = { change, status, body, done };
     tabs.postMessage(news);
     takeEdited(done);

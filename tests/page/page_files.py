@@ -2,6 +2,7 @@
 import json
 import os
 import pathlib
+import time
 
 from office import ALL_ANSWERED, ENTER, IS_TOLD, add, ask, expect, new_board, tasks, tell
 
@@ -108,6 +109,25 @@ def full_board(office):
     expect("people", json.loads(ask(f"/boards/{board}/people"))["people"], json.loads(ask(f"/boards/{made}/people"))["people"])
     expect("tasks", [task for task in before if task["status"] in ("pending", "waiting", "recurring")], sorted(tasks(made), key=lambda task: [one["uuid"] for one in before].index(task["uuid"])))
     browser.run("[...document.querySelectorAll('#notices button')].at(-1).click()")
+
+
+def sweeps_once(office):
+    """A full board always has more to make: the page asks it to, once, and goes on when nothing was added."""
+    browser, relay, board = office.browser, office.relay, new_board("Filled")
+    for part in range(10):
+        ask(f"/boards/{board}/import-todo", "".join(f"x 2026-01-01 Done {part} {number}\n" for number in range(999)).encode())
+    add(board, description="Each day", due="20200101T000000Z", recur="daily")
+    expect("the board", 10_000, len(tasks(board)))
+    office.begin(board)
+    browser.wait(IS_TOLD, "Each day")
+    swept, news = ("POST", f"/boards/{board}/sweep"), ("GET", f"/boards/{board}/history/")
+    while relay.asked.count(swept) == 0:
+        time.sleep(0.1)
+    browser.wait(ALL_ANSWERED)
+    looked = len(relay.asked)
+    while sum(it[0] == news[0] and it[1].startswith(news[1]) for it in relay.asked[looked:]) < 2:
+        time.sleep(0.1)
+    expect("sweeps asked for", 1, relay.asked.count(swept))
 
 
 # Once the board has a deleted task.
@@ -247,4 +267,4 @@ def rest_of_a_part(office):
     browser.wait("return document.querySelectorAll('#notices li').length === 0")
 
 
-SCENES = (made_to_repeat, rest_of_a_part, full_board, the_rest, places_of_instances, template_that_waits, lost_in_export)
+SCENES = (made_to_repeat, rest_of_a_part, full_board, sweeps_once, the_rest, places_of_instances, template_that_waits, lost_in_export)
