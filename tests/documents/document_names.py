@@ -219,6 +219,15 @@ def check_logic():
         faults.append("README.md, --version and dist/manifest name different logics")
 
 
+def check_release():
+    """`--version` and the manifest of dist/ name the newest release of the changes."""
+    [number, date] = re.search(r"(?m)^## ([0-9.]+) \(([0-9-]+)\)$", (TOP / "CHANGELOG.md").read_text()).groups()
+    if f"\ntaskboard {number} ({date})\n" not in (TOP / "crates/taskboard/src/main.rt").read_text():
+        faults.append(f"--version doesn't name release {number} ({date})")
+    if f"release {number}\ndate {date}\n" not in (TOP / "dist/manifest").read_text():
+        faults.append(f"dist/manifest doesn't name release {number} ({date})")
+
+
 def check_words():
     """Each word of a script stands where people look for it: in a table of USING.md, in the help of `send`, and behind its completion, which offers no others."""
     words = set(re.findall(r'(?m)^ +"([a-z-]+)" => Word::', (TOP / "crates/tb_calls/src/word.rt").read_text()))
@@ -303,6 +312,7 @@ check_examples()
 check_tests()
 check_numbers()
 check_logic()
+check_release()
 check_words()
 check_deeds()
 check_my_words()

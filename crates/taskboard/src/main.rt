@@ -51,9 +51,9 @@ use tb_program::{Fault, print_text};
 use tb_script::{Watched, run_lines};
 use tb_sending::{MachineDial, ServerLine, name_call};
 
-/// Which program this is.
+/// Which program this is: its release, as the newest in `CHANGELOG.md`, and what it reads and was proved with.
 const VERSION: &str = "\
-taskboard 1
+taskboard 1.0.1 (2026-12-01)
 tables of version 2
 proved with logic dac8208d650f15bf
 ";
