@@ -1,4 +1,4 @@
-"""Attacks a service as contrib/systemd has it: python3 attacks.py PROGRAM TOP [all], as root, in a folder that it may write to, with a network
+"""Attacks a service as contrib/systemd has it: python3 attacks.py PROGRAM TOP, as root, in a folder that it may write to, with a network
 of its own in which 192.0.2.7 is an address of this machine."""
 import contextlib
 import errno
@@ -320,14 +320,13 @@ def stalled_log():
     return f"a log that isn't read held nobody up; it had {len(told)} bytes"
 
 
-QUICK = (port_taken, elsewhere, hung_up, readiness, full_disk, forged_line)
-MORE = (long_lines, stalled_log)
+ATTACKS = (port_taken, elsewhere, hung_up, readiness, full_disk, forged_line, long_lines, stalled_log)
 
 
 def main():
     begun, said = time.monotonic(), []
     expect("curl is there", shutil.which("curl"))
-    for attack in (*QUICK, *(MORE if "all" in sys.argv[3:] else ())):
+    for attack in ATTACKS:
         said.append(attack())
     print(f"{'; '.join(said)}; in {time.monotonic() - begun:.0f} s")
 

@@ -1,6 +1,6 @@
 #!/bin/sh
 # Attacks a service as contrib/systemd has it, without systemd: another user takes its port while it's down; HUP and INT; a disk that is full;
-# text for whoever is told of a failure; a connection to another address of the machine. With `all` also what floods or stalls its log.
+# text for whoever is told of a failure; a connection to another address of the machine; what floods or stalls its log.
 # It needs root for users, networks and disks of its own, setpriv and curl, and takes some ten seconds once the program is there.
 set -eu
 
@@ -21,4 +21,4 @@ chmod 711 "$folder"
 unshare --net --mount sh -c '
     ip link set lo up
     ip address add 192.0.2.7/32 dev lo
-    exec "$@"' sh python3 "$top/tests/hostile/attacks.py" "$program" "$top" "$@"
+    exec "$@"' sh python3 "$top/tests/hostile/attacks.py" "$program" "$top"
