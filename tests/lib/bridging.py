@@ -12,6 +12,7 @@ import threading
 import uuid
 
 from connecting import connected
+from listening import Listener
 from talking import end_by_signal, make_file
 
 BRIDGES = os.path.join(os.path.dirname(os.path.abspath(__file__)), "..", "..", "contrib", "bridges")
@@ -44,7 +45,7 @@ class Server:
         self.process.wait()
 
 
-class Line:
+class Line(Listener):
     """Passes messages on to the server one by one, and does what is asked for at the message of a number."""
 
     def __init__(self, server):
@@ -54,18 +55,11 @@ class Line:
         self.cuts = lambda _message, _answer: None
         # How often a run looked at both sides, whether one has the board's tasks and did nothing since, and the looks of runs that were killed.
         self.looks, self.asked, self.cut, self.before = 0, False, set(), 0
-        self.listener = socket.create_server(("127.0.0.1", 0))
-        self.port = self.listener.getsockname()[1]
         self.lock = threading.Lock()
-        threading.Thread(target=self.listen, daemon=True).start()
+        super().__init__()
 
     def stop_at(self, at, stop):
         self.at, self.stop, self.count = at, stop, 0
-
-    def listen(self):
-        while True:
-            client, _ = self.listener.accept()
-            threading.Thread(target=self.serve, args=(client,), daemon=True).start()
 
     def serve(self, client):
         with client, contextlib.suppress(OSError):

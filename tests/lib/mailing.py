@@ -2,15 +2,15 @@
 import contextlib
 import email
 import email.policy
-import socket
 import ssl
-import threading
+
+from listening import Listener
 
 # At which step who sends is killed. From "DATA" to "end" the mail may have gone or not, for all that the sender knows.
 STEPS = ("connect", "EHLO", "MAIL", "RCPT", "DATA", "body", "end", "QUIT")
 
 
-class MailServer:
+class MailServer(Listener):
     """Listens on a port of its own. `accepted` are the mails that it took, `refused` the addresses that it refuses."""
 
     def __init__(self, certificate=None):
@@ -20,9 +20,7 @@ class MailServer:
         if certificate:
             self.context = ssl.SSLContext(ssl.PROTOCOL_TLS_SERVER)
             self.context.load_cert_chain(*certificate)
-        self.listener = socket.create_server(("127.0.0.1", 0))
-        self.port = self.listener.getsockname()[1]
-        threading.Thread(target=self.listen, daemon=True).start()
+        super().__init__()
 
     def stop_at(self, step, kill):
         self.at, self.kill = step, kill
@@ -34,11 +32,6 @@ class MailServer:
             self.kill()
             return True
         return False
-
-    def listen(self):
-        while True:
-            client, _ = self.listener.accept()
-            threading.Thread(target=self.serve, args=(client,), daemon=True).start()
 
     def serve(self, client):
         with contextlib.suppress(OSError), contextlib.closing(client):

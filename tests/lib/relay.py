@@ -3,20 +3,20 @@ import contextlib
 import socket
 import threading
 
+from listening import Listener
+
 # What becomes of a POST and of its answer.
 PASSES, LOSES_POSTS, LOSES_ANSWERS = range(3)
 
 
-class Relay:
+class Relay(Listener):
     """Listens on a port of its own, and passes on to the server's port. `asked` has the method and the path of each message that came."""
 
     def __init__(self, port):
         self.server_port, self.mode = port, PASSES
         self.lost = threading.Event()
         self.asked = []
-        self.listener = socket.create_server(("127.0.0.1", 0))
-        self.port = self.listener.getsockname()[1]
-        threading.Thread(target=self.listen, daemon=True).start()
+        super().__init__()
 
     def break_off(self, mode):
         """From now on POSTs are lost, or their answers; `lost` tells of the first."""
@@ -25,11 +25,6 @@ class Relay:
 
     def heal(self):
         self.mode = PASSES
-
-    def listen(self):
-        while True:
-            client, _ = self.listener.accept()
-            threading.Thread(target=self.serve, args=(client,), daemon=True).start()
 
     def serve(self, client):
         with client, contextlib.suppress(OSError):

@@ -5,13 +5,12 @@ import contextlib
 import os
 import random
 import shutil
-import socket
 import subprocess
 import sys
-import threading
 
 from bridging import whole
 from connecting import connected
+from listening import Listener
 from drawing import seeded
 from tracing import counted, injected
 
@@ -25,20 +24,18 @@ KILLED_AT = ("openat", "write", "fsync", "rename", "renameat", "renameat2", "unl
 wrong = []
 
 
-class Line(threading.Thread):
+class Line(Listener):
     """A line to the server: `mode` says what becomes of the next message that changes something, and of its answer."""
 
-    def __init__(self):
-        super().__init__(daemon=True)
-        self.listener = socket.create_server(("127.0.0.1", PORT + 1))
-        self.loses, self.left, self.longest = False, None, 0
-        self.start()
+    at_once = False
 
-    def run(self):
-        while True:
-            client, _ = self.listener.accept()
-            with client, contextlib.suppress(OSError):
-                self.pass_on(client)
+    def __init__(self):
+        self.loses, self.left, self.longest = False, None, 0
+        super().__init__(PORT + 1)
+
+    def serve(self, client):
+        with client, contextlib.suppress(OSError):
+            self.pass_on(client)
 
     def pass_on(self, client):
         message = whole(client)

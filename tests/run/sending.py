@@ -9,6 +9,7 @@ import time
 
 from connecting import connected, free_port
 from killed import Server
+from listening import Listener
 
 program, port, tasks, kills = sys.argv[1], *(int(word) for word in sys.argv[2:])
 CLIENTS = 4
@@ -223,20 +224,19 @@ def look_at_kills(server):
     print(f"killed {server.killed} times under {CLIENTS} clients: {len(lost)} of {len(sent)} tasks lost, {len(doubled)} doubled")
 
 
-class Proxy(threading.Thread):
+class Proxy(Listener):
     """Lets so many bytes of one answer through and ends the connection; the answers after it are whole."""
 
+    at_once = False
+
     def __init__(self, at):
-        super().__init__(daemon=True)
         self.bytes_left = None
         self.longest = 0
-        self.listener = socket.create_server(("127.0.0.1", at))
+        super().__init__(at)
 
-    def run(self):
-        while True:
-            client, _ = self.listener.accept()
-            with client:
-                self.pass_on(client)
+    def serve(self, client):
+        with client:
+            self.pass_on(client)
 
     def pass_on(self, client):
         message = b""
@@ -272,7 +272,7 @@ class ViewsAlone(Proxy):
 def look_at_lost_place():
     """A call to a task by its place that gets no answer: it is to go on with the uuid, since places move."""
     place = free_port()
-    ViewsAlone(place).start()
+    ViewsAlone(place)
     uuid = exported()[1]["uuid"]
     ran = send("done", "3", "2", server=f"127.0.0.1:{place}", options=["--for", "1"])
     expect("lost", ran, 1, "", 'taskboard: 2 is "Pay rent"')
@@ -283,7 +283,6 @@ def look_at_lost_place():
 def look_at_cuts():
     """An answer that is cut after each of its bytes: it is told whole, and the call acted once."""
     proxy = Proxy(port + 1)
-    proxy.start()
     before = len(json.loads(send("export", "2").stdout))
     cut, whole = 0, None
     while whole is None or cut < whole:

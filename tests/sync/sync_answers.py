@@ -1,12 +1,11 @@
 """Answers that are cut, or that no server of boards gives, to what asks in a bridge: sync_answers.py. A server of the test's own gives them."""
 import os
-import socket
 import sys
-import threading
 
 sys.path.insert(0, os.path.join(os.path.dirname(os.path.abspath(__file__)), "..", "..", "contrib", "bridges"))
 sys.dont_write_bytecode = True
 from bridging import expect
+from listening import Listener
 from taskboard_bridges.asking import Boards
 from taskboard_bridges.fault import Fault
 
@@ -15,26 +14,25 @@ WHOLE = b"HTTP/1.1 409 Conflict\r\ncontent-type: application/json\r\ncontent-len
 CALL = ("00000000-0000-4000-8000-000000000001", "/boards/1/tasks", b"{}")
 
 
-class Teller:
+class Teller(Listener):
     """Answers each message with the same bytes, and ends the connection after them where it is told to."""
+
+    at_once = False
 
     def __init__(self):
         self.answer, self.ends, self.heard = b"", True, []
-        self.listener = socket.create_server(("127.0.0.1", 0))
-        threading.Thread(target=self.listen, daemon=True).start()
+        super().__init__()
 
-    def listen(self):
-        while True:
-            client, _ = self.listener.accept()
-            with client:
-                while got := client.recv(65536):
-                    self.heard.append(got)
-                    client.sendall(self.answer)
-                    if self.ends:
-                        break
+    def serve(self, client):
+        with client:
+            while got := client.recv(65536):
+                self.heard.append(got)
+                client.sendall(self.answer)
+                if self.ends:
+                    break
 
     def boards(self):
-        return Boards(f"127.0.0.1:{self.listener.getsockname()[1]}", "ann", "ann-key-1", patience=0)
+        return Boards(f"127.0.0.1:{self.port}", "ann", "ann-key-1", patience=0)
 
 
 def fault_of(ask):
