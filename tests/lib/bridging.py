@@ -44,6 +44,13 @@ class Server:
         self.process.kill()
         self.process.wait()
 
+    def checked(self):
+        """What `check` prints of the file, once the server has ended. It may count no fault."""
+        self.end()
+        checked = subprocess.run([self.words[0], "check", "b.db"], capture_output=True, text=True).stdout.strip()
+        expect("check", "0", checked.split()[-1])
+        return checked
+
 
 class Line(Listener):
     """Passes messages on to the server one by one, and does what is asked for at the message of a number."""
@@ -207,6 +214,17 @@ class Runs:
         self.stopped += came and stop.startswith("run")
         self.line.stop_at(None, None)
         return came
+
+
+def run_whole(sides, seed):
+    """Has the two sides run, and ends their server. Before a fault it prints the seed and the last lines that runs said."""
+    try:
+        sides.run()
+    except BaseException:
+        print(f"with SEED={seed}, after:\n" + "\n".join(sides.runs.said[-15:]), file=sys.stderr)
+        raise
+    finally:
+        sides.server.end()
 
 
 def in_turn(generator, kinds):

@@ -5,9 +5,9 @@ import sys
 
 sys.path.insert(0, os.path.join(os.path.dirname(os.path.abspath(__file__)), "..", "..", "contrib", "bridges"))
 sys.dont_write_bytecode = True
-from bridging import Editor, expect
+from bridging import Editor, expect, run_whole
 from ledger import expect_alike
-from syncing import Week
+from syncing import SEED, Week
 from taskboard_bridges.taskwarrior import Taskwarrior, named
 
 NUMBERS = range(1, 257)
@@ -47,15 +47,11 @@ class Boards(Week):
             expect(f"both changes on board {number}", ("H", ["tagged"]), (editor.tasks()[task]["priority"], editor.tasks()[task]["tags"]))
             expect_alike(f"board {number}", {task: editor.tasks()[task]}, {task: self.user.tasks()[task]})
 
+    def run(self):
+        self.each_number()
+        self.whole_runs()
+        print(f"tasks of {len(NUMBERS)} board numbers found by their names; whole runs on boards {', '.join(map(str, WHOLE))}")
+
 
 if __name__ == "__main__":
-    boards = Boards()
-    try:
-        boards.each_number()
-        boards.whole_runs()
-        print(f"tasks of {len(NUMBERS)} board numbers found by their names; whole runs on boards {', '.join(map(str, WHOLE))}")
-    except BaseException:
-        print("after:\n" + "\n".join(boards.runs.said[-15:]), file=sys.stderr)
-        raise
-    finally:
-        boards.server.end()
+    run_whole(Boards(), SEED)

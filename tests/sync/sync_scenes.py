@@ -12,9 +12,9 @@ sys.path.insert(0, os.path.join(os.path.dirname(os.path.abspath(__file__)), ".."
 sys.dont_write_bytecode = True
 from taskboard_bridges.lines import Line as TodoLine
 from taskboard_bridges.lines import spell
-from bridging import Editor, expect
+from bridging import Editor, expect, run_whole
 from ledger import expect_alike
-from syncing import PORT, Week
+from syncing import PORT, SEED, Week
 
 A, B, C, D, E, F = (f"dddddddd-dddd-4ddd-8ddd-00000000000{at}" for at in range(1, 7))
 BASE = {"entry": "20260102T081500Z", "modified": "20260103T101010Z", "status": "pending"}
@@ -386,28 +386,24 @@ class Scenes(Week):
             expect(task, line, spell(task, TodoLine(lines[task]).view(), there["entry"], there.get("end")))
         return len(lines)
 
+    def run(self):
+        self.first()
+        self.unfit()
+        self.refused()
+        self.stopped()
+        self.cut()
+        cut = self.cut_anywhere()
+        stops = self.conflicts() + self.closed()
+        self.taken_over()
+        self.met_first()
+        handed = self.templates()
+        self.unchanged()
+        self.another()
+        self.purged()
+        self.strangers()
+        self.hook()
+        print(f"filters, unfit values, refusals, templates, purged tasks, strangers, a hook; conflicts and edits of a completed task stopped at {stops} messages in turn, templates handed over at {handed}, {cut} answers cut anywhere; {self.lines()} lines read and written as the server does")
+
 
 if __name__ == "__main__":
-    scenes = Scenes()
-    try:
-        scenes.first()
-        scenes.unfit()
-        scenes.refused()
-        scenes.stopped()
-        scenes.cut()
-        cut = scenes.cut_anywhere()
-        stops = scenes.conflicts() + scenes.closed()
-        scenes.taken_over()
-        scenes.met_first()
-        handed = scenes.templates()
-        scenes.unchanged()
-        scenes.another()
-        scenes.purged()
-        scenes.strangers()
-        scenes.hook()
-        print(f"filters, unfit values, refusals, templates, purged tasks, strangers, a hook; conflicts and edits of a completed task stopped at {stops} messages in turn, templates handed over at {handed}, {cut} answers cut anywhere; {scenes.lines()} lines read and written as the server does")
-    except BaseException:
-        print("after:\n" + "\n".join(scenes.runs.said[-15:]), file=sys.stderr)
-        raise
-    finally:
-        scenes.server.end()
+    run_whole(Scenes(), SEED)

@@ -10,7 +10,7 @@ import sys
 import time
 import uuid as uuids
 
-from bridging import BRIDGES, STOPS, Editor, Line, Runs, Server, expect, in_turn, moment, text
+from bridging import BRIDGES, STOPS, Editor, Line, Runs, Server, expect, in_turn, moment, run_whole, text
 from drawing import seeded
 from ledger import Ledger, expect_alike, is_template
 
@@ -373,24 +373,11 @@ class Week:
         self.runs.complete()
         said = self.expect_alike("two runs at once")
         expect("what stopped runs left", [], [name for name in os.listdir() if "taskboard-" in name])
-        checked = self.check()
+        checked = self.server.checked()
         print(f"seed {SEED}: {len(said)} tasks, {self.ledger.count} edits on both sides in {DAYS} days, {self.closed_edits} of them of closed tasks, "
               f"{self.line.edits * 3} while a run went on, {self.ledger.conflicts} values kept as notes; {self.runs.stopped} runs stopped, the server killed {self.server.kills} times, "
               f"{self.runs.whole} whole runs; {checked}; {time.monotonic() - begun:.0f} s")
 
-    def check(self):
-        self.server.end()
-        checked = subprocess.run([PROGRAM, "check", "b.db"], capture_output=True, text=True).stdout.strip()
-        expect("check", "0", checked.split()[-1])
-        return checked
-
 
 if __name__ == "__main__":
-    week = Week()
-    try:
-        week.run()
-    except BaseException:
-        print(f"with SEED={SEED}, after:\n" + "\n".join(week.runs.said[-15:]), file=sys.stderr)
-        raise
-    finally:
-        week.server.end()
+    run_whole(Week(), SEED)

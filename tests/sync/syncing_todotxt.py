@@ -11,7 +11,7 @@ import sys
 import time
 import uuid as uuids
 
-from bridging import BRIDGES, STOPS, Editor, Line, Runs, Server, expect, in_turn, moment
+from bridging import BRIDGES, STOPS, Editor, Line, Runs, Server, expect, in_turn, moment, run_whole
 from drawing import seeded
 from ledger import Ledger, is_template
 
@@ -295,7 +295,7 @@ class Week:
         left = self.expect_alike("the end")
         self.delete_missing()
         expect("what stopped runs left", [], [name for name in os.listdir() if "taskboard-" in name])
-        checked = self.check()
+        checked = json.dumps(self.server.checked())
         print(f"seed {SEED}: {len(left)} tasks, {self.ledger.count} edits on both sides in {DAYS} days, {self.line.edits * 3} while a run went on, {self.ledger.conflicts} values kept as notes; "
               f"{self.runs.stopped} runs stopped, the server killed {self.server.kills} times, {self.runs.whole} whole runs; {checked}; {time.monotonic() - begun:.0f} s")
 
@@ -362,19 +362,6 @@ class Week:
         self.runs.complete("--delete-missing")
         expect("what is gone with --delete-missing", "deleted", self.editor.tasks()[uuid]["status"])
 
-    def check(self):
-        self.server.end()
-        checked = subprocess.run([PROGRAM, "check", "b.db"], capture_output=True, text=True).stdout.strip()
-        expect("check", "0", checked.split()[-1])
-        return json.dumps(checked)
-
 
 if __name__ == "__main__":
-    week = Week()
-    try:
-        week.run()
-    except BaseException:
-        print(f"with SEED={SEED}, after:\n" + "\n".join(week.runs.said[-15:]), file=sys.stderr)
-        raise
-    finally:
-        week.server.end()
+    run_whole(Week(), SEED)
