@@ -16,6 +16,7 @@ import threading
 import time
 
 from connecting import connected
+from expecting import expecting
 from talking import KNOWN, answer_to, body_of, identified, message, status_of
 
 PROGRAM, TOP = os.path.abspath(sys.argv[1]), pathlib.Path(sys.argv[2])
@@ -27,11 +28,7 @@ PATIENCE = 60 * float(os.environ.get("LONGEST", 2))
 # What a line of the log has at most: 200 bytes of name, method and path, each of which may be written as four signs, and the rest.
 LONGEST_LINE = 3 * 200 * 4 + 100
 VIEW = message(b"GET", b"/me")
-
-
-def expect(what, is_so):
-    if not is_so:
-        sys.exit(f"attacks: {what}")
+expect = expecting("attacks")
 
 
 def wait_until(what, is_so):

@@ -7,6 +7,7 @@ import sys
 import threading
 import time
 
+from expecting import expecting
 from talking import Caller, Server, adding, answer_to, expect_each_once, has_ended, is_whole, make_file, message, status_of
 
 PROGRAM, PORT, LONGEST, PART = sys.argv[1], int(sys.argv[2]), float(sys.argv[3]), sys.argv[4]
@@ -14,11 +15,7 @@ PLACES = 512
 # How many messages a connection carries before the server ends it.
 MESSAGES = 1000
 LIST = message(b"GET", b"/boards/1/list")
-
-
-def expect(what, is_so):
-    if not is_so:
-        sys.exit(f"{PART}: {what}")
+expect = expecting(PART)
 
 
 def answered(client, sent):

@@ -11,6 +11,7 @@ import sys
 import threading
 import time
 
+from expecting import expecting
 from talking import KNOWN, UNBOUNDED, Server, answer_to, identified, is_whole, make_file, message, status_of
 
 PROGRAM, PORT, SLACK, PART = os.path.abspath(sys.argv[1]), int(sys.argv[2]), float(sys.argv[3]), sys.argv[4]
@@ -21,11 +22,7 @@ ME = message(b"GET", b"/me")
 EXPORT = message(b"GET", b"/boards/1/export")
 # The longest body that a message may have.
 LONGEST_BODY = 1_048_576
-
-
-def expect(what, is_so):
-    if not is_so:
-        sys.exit(f"{PART}: {what}")
+expect = expecting(PART)
 
 
 def by(name, key, identifier=None):

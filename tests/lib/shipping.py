@@ -12,16 +12,13 @@ import sys
 import threading
 import time
 
+from expecting import expecting
 from talking import Server, answer_to, identified, is_whole, message, status_of
 
 # How long a state is waited for, in seconds; a machine that has other work too may take longer.
 PATIENCE = 60 * float(os.environ.get("LONGEST", 2))
 TO = pathlib.Path("to")
-
-
-def expect(what, is_so):
-    if not is_so:
-        sys.exit(f"ship: {what}")
+expect = expecting("ship")
 
 
 def wait_until(what, is_so, patience=PATIENCE):

@@ -11,6 +11,7 @@ import sys
 import threading
 import time
 
+from expecting import expecting
 from talking import Server, adding, answer_to, description, expect_each_once, is_whole, make_file, status_of
 
 PROGRAM, PORT, BACKUP = sys.argv[1], int(sys.argv[2]), sys.argv[3]
@@ -26,11 +27,7 @@ SLOW = """#!/bin/sh
 echo >>count
 [ "$(wc -l <count)" -gt 6 ] || sleep 0.15
 """
-
-
-def expect(what, is_so):
-    if not is_so:
-        sys.exit(f"backup: {what}")
+expect = expecting("backup")
 
 
 class Sender(threading.Thread):

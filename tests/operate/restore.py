@@ -12,6 +12,7 @@ import sys
 import threading
 import time
 
+from expecting import expecting
 from talking import KNOWN, Server, adding, answer_to, body_of, description, identified, make_file, message, status_of
 
 PROGRAM, PORT = sys.argv[1], int(sys.argv[2])
@@ -40,11 +41,7 @@ CGROUPS = [path for path in map(pathlib.Path, ("/sys/fs/cgroup/systemd", "/sys/f
 HERE = pathlib.Path.cwd()
 COPIES = pathlib.Path("copies")
 ENVIRONMENT = {**os.environ, "TASKBOARD": PROGRAM}
-
-
-def expect(what, is_so):
-    if not is_so:
-        sys.exit(f"restore: {what}")
+expect = expecting("restore")
 
 
 def ran(*words, **more):

@@ -20,6 +20,7 @@ import threading
 import time
 import uuid
 
+from expecting import expecting
 from shipping import cut_log
 from talking import KNOWN, Server, answer_to, make_file, message, status_of
 
@@ -52,11 +53,7 @@ cat journal
 echo '-- cursor: s=1;i=2'
 """
 said = 0
-
-
-def expect(what, is_so):
-    if not is_so:
-        sys.exit(f"watch: {what}")
+expect = expecting("watch")
 
 
 def line_of(*words, server=PORT, headers="watch.headers"):
