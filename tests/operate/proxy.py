@@ -12,7 +12,9 @@ import sys
 import threading
 import time
 
-from connecting import connected, free_port
+from connecting import free_port
+from expecting import expecting
+from fronting import Front
 from relay import Relay
 from talking import Server, make_file
 
@@ -22,25 +24,8 @@ HERE = pathlib.Path.cwd()
 # How many different wrong keys an address may try for a name, and for all names; how many whole boards it may read at once.
 TRIES, ALL_TRIES = map(int, re.search(r">= (\d+) or .* >= (\d+) then", CONFIGURATION.read_text()).groups())
 AT_ONCE = int(re.search(r"limit_conn taskboard_whole_of_address (\d+);", CONFIGURATION.read_text())[1])
-MAIN = """pid {here}/nginx.pid;
-error_log {here}/errors;
-{modules}
-events {{}}
-http {{
-    access_log off;
-    client_body_temp_path {here}/temporary;
-    proxy_temp_path {here}/temporary;
-    fastcgi_temp_path {here}/temporary;
-    uwsgi_temp_path {here}/temporary;
-    scgi_temp_path {here}/temporary;
-    include {here}/taskboard.conf;
-}}
-"""
 
-
-def expect(what, is_so):
-    if not is_so:
-        sys.exit(f"proxy: {what}")
+expect = expecting("proxy")
 
 
 class Recorder(Relay):
@@ -56,33 +41,16 @@ class Recorder(Relay):
             server.sendall(sent)
 
 
-def write_configuration(upstream, port):
-    """The configuration with other ports, and the certificate of this folder; IPv6 where the machine has it."""
+def front(upstream):
+    """nginx by the configuration with other ports, and the certificate of this folder; IPv6 where the machine has it."""
+    port = free_port()
     text = CONFIGURATION.read_text().replace("127.0.0.1:920", f"127.0.0.1:{upstream}").replace("/etc/ssl/taskboard/", f"{HERE}/")
     text = text.replace("listen 443 ", f"listen {port} ").replace("listen [::]:443 ", f"listen [::]:{port} ")
     if not os.path.exists("/proc/net/if_inet6"):
         text = re.sub(r".*listen \[::\].*\n", "", text)
     pathlib.Path("taskboard.conf").write_text(text)
     modules = "\n".join(f"include {path};" for path in sorted(glob.glob("/etc/nginx/modules-enabled/*.conf")))
-    pathlib.Path("nginx.conf").write_text(MAIN.format(here=HERE, modules=modules))
-
-
-def begin(upstream):
-    """Begins nginx on a port of its own; None where it lacks the module."""
-    port = free_port()
-    write_configuration(upstream, port)
-    tried = subprocess.run(["nginx", "-t", "-c", HERE / "nginx.conf"], capture_output=True, text=True)
-    if 'unknown directive "lua_shared_dict"' in tried.stderr:
-        return None, port
-    expect(f"the configuration: {tried.stderr}", tried.returncode == 0)
-    process = subprocess.Popen(["nginx", "-c", HERE / "nginx.conf", "-g", "daemon off;"], stderr=subprocess.DEVNULL)
-    connected(port, 10).close()
-    return process, port
-
-
-def end(process):
-    process.terminate()
-    process.wait()
+    return Front(port, f"    include {HERE}/taskboard.conf;\n", modules)
 
 
 class Caller:
@@ -194,22 +162,19 @@ def main():
     make_file(PROGRAM)
     with Server(PROGRAM, PORT, words=("--forever", "--page", PAGE), errors=subprocess.DEVNULL):
         recorder = Recorder(PORT)
-        process, port = begin(recorder.port)
-        if process is None:
-            return print("skipped, since nginx has no Lua module")
-        try:
-            ann = Caller(port)
+        nginx = front(recorder.port)
+        fault = nginx.fault()
+        if 'unknown directive "lua_shared_dict"' in fault:
+            return print("the proxy: skipped, since nginx has no Lua module")
+        expect(f"the configuration: {fault}", not fault)
+        with nginx:
+            ann = Caller(nginx.port)
             looks_at_fields(ann)
             looks_at_identifiers(ann, recorder)
-            looks_at_wrong_keys(port)
-        finally:
-            end(process)
+            looks_at_wrong_keys(nginx.port)
         silent = Silent(PORT)
-        process, port = begin(silent.port)
-        try:
-            looks_at_whole_boards(port, silent)
-        finally:
-            end(process)
+        with front(silent.port) as nginx:
+            looks_at_whole_boards(nginx.port, silent)
     return print(f"behind nginx in {time.monotonic() - begun:.0f} s")
 
 

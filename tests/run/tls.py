@@ -14,7 +14,10 @@ import threading
 import time
 import uuid
 
-from connecting import connected, free_port
+from connecting import free_port
+from expecting import expecting
+from fronting import Front
+from listening import Listener
 from talking import Server, make_file
 
 BIN, PORT = sys.argv[1], int(sys.argv[2])
@@ -25,18 +28,6 @@ HOME = os.path.join(HERE, "home")
 # (A key that no other test of this machine has.)
 KEY = f"key-{uuid.uuid4()}"
 BARE = {name: value for name, value in os.environ.items() if not name.startswith(("TASKBOARD_", "SSL_"))} | {"HOME": HOME, "SSL_CERT_FILE": f"{HERE}/trusted.pem"}
-MAIN = """pid {here}/nginx.pid;
-error_log {here}/errors;
-events {{}}
-http {{
-    access_log off;
-    client_body_temp_path {here}/temporary;
-    proxy_temp_path {here}/temporary;
-    fastcgi_temp_path {here}/temporary;
-    uwsgi_temp_path {here}/temporary;
-    scgi_temp_path {here}/temporary;
-{servers}}}
-"""
 SECURE = """    server {{
         listen 127.0.0.1:{port} ssl;
         server_name localhost;
@@ -47,14 +38,10 @@ SECURE = """    server {{
 """
 # Answers for any other name, so that a message that names none of the server's is seen.
 OTHERS = '    server {{ listen 127.0.0.1:{port} ssl default_server; ssl_certificate {here}/good.pem; ssl_certificate_key {here}/good.key; return 421; }}\n'
+expect = expecting("tb over TLS")
 
 
-def expect(what, is_so):
-    if not is_so:
-        sys.exit(f"tb over TLS: {what}")
-
-
-class Nginx:
+class Nginx(Front):
     """A server of TLS for each certificate, in front of a port, and one that is no server of boards."""
 
     def __init__(self, upstream):
@@ -63,39 +50,22 @@ class Nginx:
         servers = "".join(SECURE.format(port=self.ports[name], here=HERE, name=name, location=passes) for name in ("good", "expired", "foreign", "misnamed"))
         servers += SECURE.format(port=self.ports["page"], here=HERE, name="good", location="default_type text/html; return 200 '<html>Welcome</html>';")
         servers += OTHERS.format(port=self.ports["good"], here=HERE)
-        with open("nginx.conf", "w") as file:
-            file.write(MAIN.format(here=HERE, servers=servers))
-        self.process = subprocess.Popen(["nginx", "-c", f"{HERE}/nginx.conf", "-g", "daemon off;"], stderr=subprocess.DEVNULL)
-        connected(self.ports["good"], 10).close()
+        super().__init__(self.ports["good"], servers)
 
     def address(self, name="good"):
         return f"https://localhost:{self.ports[name]}"
-
-    def __enter__(self):
-        return self
-
-    def __exit__(self, *_):
-        self.process.terminate()
-        self.process.wait()
 
 
 def never():
     return False
 
 
-class Watched:
+class Watched(Listener):
     """What comes by on the way from nginx to the server, and which processes there are meanwhile."""
 
     def __init__(self, port):
         self.server_port, self.heard, self.processes, self.holds, self.loses = port, [], set(), None, never
-        self.listener = socket.create_server(("127.0.0.1", 0))
-        self.port = self.listener.getsockname()[1]
-        threading.Thread(target=self.listen, daemon=True).start()
-
-    def listen(self):
-        while True:
-            client, _ = self.listener.accept()
-            threading.Thread(target=self.serve, args=(client,), daemon=True).start()
+        super().__init__()
 
     def serve(self, client):
         with client, contextlib.suppress(OSError), socket.create_connection(("127.0.0.1", self.server_port)) as server:
