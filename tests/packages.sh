@@ -15,6 +15,7 @@ sqlite3 sqlite3
 strace strace
 cc gcc libc6-dev
 nginx nginx
+ip iproute2
 node nodejs
 tsc node-typescript
 openssl openssl

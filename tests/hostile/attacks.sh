@@ -10,12 +10,7 @@ if [ "$(id -u)" -ne 0 ]; then
     echo "skipped, since it needs root"
     exit 0
 fi
-for needed in ip setpriv unshare; do
-    if ! command -v "$needed" >/dev/null 2>&1; then
-        echo "skipped, since $needed isn't there"
-        exit 0
-    fi
-done
+needs attacks ip setpriv unshare
 chmod 711 "$folder"
 # A network with two addresses of its own, and mounts that end with it.
 unshare --net --mount sh -c '

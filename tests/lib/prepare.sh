@@ -1,5 +1,5 @@
 # What the tests of the running program begin with, which read this file: the program, a folder of their own that they work in, a port
-# that nobody has, a server that they may start, and how they compare what an order ends with. Folder and server are gone at their end.
+# that nobody has, a server that they may start, which programs they need, and how they compare what an order ends with. Folder and server are gone at their end.
 top=$(readlink -f "$0")
 top=${top%/tests/*}
 # (the modules that tests share)
@@ -32,6 +32,18 @@ ends() {
         exit 1
     fi
     expect "status of $*" "$wanted_status" "$status"
+}
+
+# Ends the test of this name where one of the programs after it isn't there. (tests/packages.sh judge reads that line.)
+needs() {
+    whose=$1
+    shift
+    for needed in "$@"; do
+        if ! command -v "$needed" >/dev/null 2>&1; then
+            echo "$whose: skipped, since $needed isn't there"
+            exit 0
+        fi
+    done
 }
 
 expect() {

@@ -11,12 +11,7 @@ fail() {
     exit 1
 }
 
-for needed in dpkg-deb dpkg-query chroot; do
-    if ! command -v "$needed" >/dev/null 2>&1; then
-        echo "skipped, since $needed isn't there"
-        exit 0
-    fi
-done
+needs "the package" dpkg-deb dpkg-query chroot
 if [ "$(id -u)" -ne 0 ]; then
     echo "skipped, since it needs root"
     exit 0

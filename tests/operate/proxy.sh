@@ -5,12 +5,7 @@ set -eu
 
 . "$(dirname "$0")/../lib/prepare.sh"
 
-for needed in nginx openssl; do
-    if ! command -v "$needed" >/dev/null 2>&1; then
-        echo "skipped, since $needed isn't there"
-        exit 0
-    fi
-done
+needs "the proxy" nginx openssl
 openssl req -x509 -newkey rsa:2048 -nodes -days 2 -subj /CN=boards.example.org -addext subjectAltName=DNS:boards.example.org \
     -keyout key.pem -out certificate.pem 2>/dev/null
 chmod 711 "$folder"

@@ -6,12 +6,7 @@ set -eu
 
 . "$(dirname "$0")/../lib/prepare.sh"
 
-for needed in nginx openssl; do
-    if ! command -v "$needed" >/dev/null 2>&1; then
-        echo "tb over TLS: skipped, since $needed isn't there"
-        exit 0
-    fi
-done
+needs "tb over TLS" nginx openssl
 
 # An authority, and certificates by it or by another, for a name and so many days.
 authority() {
