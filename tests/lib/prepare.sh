@@ -18,6 +18,13 @@ start_server() {
     server=$!
 }
 
+# Makes b.db, in which ann has a board, and serves it until the test ends.
+serve_new_file() {
+    "$program" init b.db ann ann-key-1
+    "$program" serve b.db --port "$port" --forever 2>/dev/null &
+    server=$!
+}
+
 # Runs the program with the words after the first two, and compares its status, what it prints and the first line of what it tells; a
 # fault has a line after it.
 ends() {

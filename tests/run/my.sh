@@ -5,7 +5,5 @@ set -eu
 
 . "$(dirname "$0")/../lib/prepare.sh"
 
-"$program" init b.db ann ann-key-1
-"$program" serve b.db --port "$port" --forever 2>/dev/null &
-server=$!
+serve_new_file
 python3 "$top/tests/run/my.py" "$program" "$port"

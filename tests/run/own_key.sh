@@ -10,7 +10,5 @@ if ! "$program" send --help 2>/dev/null | grep -q 'own-key alone'; then
     echo "skipped, since the program's own-key doesn't make a key yet"
     exit 0
 fi
-"$program" init b.db ann ann-key-1
-"$program" serve b.db --port "$port" --forever 2>/dev/null &
-server=$!
+serve_new_file
 python3 "$top/tests/run/own_key.py" "$program" "$port" "${TRIES:-20}"

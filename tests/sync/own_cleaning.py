@@ -15,7 +15,6 @@ from drawing import seeded
 sys.path.insert(0, BRIDGES)
 sys.dont_write_bytecode = True
 from taskboard_bridges.cleaning import Cleaning, text_of
-from taskboard_bridges.json_texts import NotJson
 
 PROGRAM, PORT = os.path.abspath(sys.argv[1]), sys.argv[2]
 SEED, RANDOM = seeded()
