@@ -41,6 +41,16 @@ def is_late(client, sent, seconds):
     return True
 
 
+def count_at_once(client, sent, numbers):
+    """How many of these calls are answered one after another before one waits; all of them where none does."""
+    for count, number in enumerate(numbers):
+        if is_late(client, sent(number), 2 * slack):
+            return count
+        client.settimeout(60)
+        client.recv(65536)
+    return len(numbers)
+
+
 def task(size, **members):
     """The body of a task of so many KiB."""
     notes = [{"entry": "20260101T000000Z", "description": f"{place} {NOTE}"} for place in range(size // 16)]
@@ -67,14 +77,8 @@ def refused(server):
     """Calls that are refused are kept too: a person without a role waits once her bytes are used up, and her views don't."""
     with server.connect(60) as eve:
         call(eve, message(b"GET", ME, fields=by(b"eve")))
-        large, count = task(960), 0
-        for number in range(1, 40):
-            sent = message(b"POST", b"/boards/1/tasks", large, by(b"eve", number))
-            if is_late(eve, sent, 2 * slack):
-                break
-            eve.settimeout(60)
-            eve.recv(65536)
-            count += 1
+        large = task(960)
+        count = count_at_once(eve, lambda number: message(b"POST", b"/boards/1/tasks", large, by(b"eve", number)), range(1, 40))
         if not BURST - 1 <= count <= BURST + 2:
             sys.exit(f"{count} refused calls of 1 MB went through, with {BURST} MiB at once")
     with server.connect(60) as eve:
@@ -98,12 +102,7 @@ def swept(server):
     with server.connect(60) as bob:
         call(bob, message(b"GET", ME, fields=by(b"bob")))
         call(bob, message(b"POST", b"/boards/2/tasks", task(240, due="20200101T000000Z", recur="daily"), by(b"bob", 60)))
-        for number in range(61, 70):
-            if is_late(bob, message(b"POST", b"/boards/2/sweep", b"{}", by(b"bob", number)), 2 * slack):
-                break
-            bob.settimeout(60)
-            bob.recv(65536)
-        else:
+        if count_at_once(bob, lambda number: message(b"POST", b"/boards/2/sweep", b"{}", by(b"bob", number)), range(61, 70)) == 9:
             sys.exit("nine sweeps of 15 MB were answered")
     with server.connect(60) as ann:
         took = call(ann, message(b"POST", b"/boards/1/tasks", b'{"description":"A"}', identified(70)))
@@ -116,13 +115,9 @@ def boards(server):
     """A new board counts for 1 MiB: who makes many waits, long before the 10,000 numbers are used up."""
     with server.connect(60) as dan:
         call(dan, message(b"GET", ME, fields=by(b"dan")))
-        for number in range(100, 140):
-            if is_late(dan, message(b"POST", b"/boards", b'{"title":"Many"}', by(b"dan", number)), 2 * slack):
-                break
-            dan.settimeout(60)
-            dan.recv(65536)
-    if not BURST <= number - 100 <= BURST + 2:
-        sys.exit(f"{number - 100} boards were made at once, with {BURST} MiB at once")
+        count = count_at_once(dan, lambda number: message(b"POST", b"/boards", b'{"title":"Many"}', by(b"dan", number)), range(100, 140))
+    if not BURST <= count <= BURST + 2:
+        sys.exit(f"{count} boards were made at once, with {BURST} MiB at once")
     with server.connect(60) as ann:
         took = call(ann, message(b"POST", b"/boards/1/tasks", b'{"description":"B"}', identified(71)))
         if took > KNOWN_WITHIN:
