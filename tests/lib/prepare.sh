@@ -35,10 +35,18 @@ ends() {
     printed=$("$program" "$@" 2>told) || status=$?
     expect "$*" "$wanted" "$printed$(head -n 1 told)"
     if [ -s told ] && [ "$(wc -l <told)" -lt 2 ]; then
-        echo "$*: nothing says what to do"
-        exit 1
+        fail "$*: nothing says what to do"
     fi
     expect "status of $*" "$wanted_status" "$status"
+}
+
+fail() {
+    echo "$1"
+    exit 1
+}
+
+is_there() {
+    command -v "$1" >/dev/null 2>&1
 }
 
 # Ends the test of this name where one of the programs after it isn't there. (tests/packages.sh judge reads that line.)
@@ -46,7 +54,7 @@ needs() {
     whose=$1
     shift
     for needed in "$@"; do
-        if ! command -v "$needed" >/dev/null 2>&1; then
+        if ! is_there "$needed"; then
             echo "$whose: skipped, since $needed isn't there"
             exit 0
         fi
@@ -54,8 +62,5 @@ needs() {
 }
 
 expect() {
-    if [ "$2" != "$3" ]; then
-        echo "$1: expected '$2', but got '$3'"
-        exit 1
-    fi
+    [ "$2" = "$3" ] || fail "$1: expected '$2', but got '$3'"
 }

@@ -8,15 +8,6 @@ set -eu
 contrib=$top/contrib
 prefix=$folder/opt
 
-fail() {
-    echo "$1"
-    exit 1
-}
-
-is_there() {
-    command -v "$1" >/dev/null 2>&1
-}
-
 # Installs from a clone: this one, or one that the test has made.
 install_from() {
     clone=$1

@@ -6,11 +6,6 @@ set -eu
 
 . "$(dirname "$0")/../lib/prepare.sh"
 
-fail() {
-    echo "$1"
-    exit 1
-}
-
 needs "the package" dpkg-deb dpkg-query chroot
 if [ "$(id -u)" -ne 0 ]; then
     echo "skipped, since it needs root"

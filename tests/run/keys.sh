@@ -5,11 +5,6 @@ set -eu
 
 . "$(dirname "$0")/../lib/prepare.sh"
 
-fail() {
-    echo "$1"
-    exit 1
-}
-
 # The first line is a key that was made: that of an identifier of version 4.
 is_made() {
     echo "$1" | grep -Eqx '[0-9a-f]{8}-[0-9a-f]{4}-4[0-9a-f]{3}-[89ab][0-9a-f]{3}-[0-9a-f]{12}' || fail "$1: no key was made"

@@ -11,15 +11,6 @@ bridges=$top/contrib/bridges
 tasks=${SYNC_TASKS:-800}
 days=${SYNC_DAYS:-7}
 
-fail() {
-    echo "$1"
-    exit 1
-}
-
-is_there() {
-    command -v "$1" >/dev/null 2>&1
-}
-
 # Each part works in a folder of its own.
 part() {
     mkdir "$1"
