@@ -84,9 +84,5 @@ for number in $(seq 1 "${TASKS:-500}"); do
         exit 1
     fi
 done
-checked=$("$program" check b.db)
-if [ "$checked" != "boards 1 tasks ${TASKS:-500} faults 0" ]; then
-    echo "check: $checked"
-    exit 1
-fi
+expect check "boards 1 tasks ${TASKS:-500} faults 0" "$("$program" check b.db)"
 echo "each of ${TASKS:-500} tasks is there once"

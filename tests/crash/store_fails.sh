@@ -44,9 +44,5 @@ start_server 1
 add $number >/dev/null
 wait "$server"
 server=
-checked=$("$program" check b.db)
-if [ "$checked" != "boards 1 tasks $((number - 99)) faults 0" ]; then
-    echo "after $((number - 99)) adds, the last one sent again: $checked"
-    exit 1
-fi
+expect "after the last add was sent again" "boards 1 tasks $((number - 99)) faults 0" "$("$program" check b.db)"
 echo "the file failed on message $((number - 99)), which was told of, and each task is there once"

@@ -30,8 +30,4 @@ fi
 kill "$server"
 wait "$server" 2>/dev/null || true
 server=
-checked=$("$program" check b.db)
-if [ "$checked" != "boards 1 tasks 320 faults 0" ]; then
-    echo "check: $checked"
-    exit 1
-fi
+expect check "boards 1 tasks 320 faults 0" "$("$program" check b.db)"
