@@ -30,5 +30,15 @@ def connected(port, timeout):
     sys.exit("the server doesn't listen")
 
 
+def whole_answer(port, message):
+    """All that a server sends on a message, until it ends the connection."""
+    with connected(port, 10) as server:
+        server.sendall(message)
+        answer = b""
+        while came := server.recv(65536):
+            answer += came
+    return answer
+
+
 if __name__ == "__main__":
     print(free_port())

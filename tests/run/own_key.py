@@ -9,7 +9,7 @@ import subprocess
 import sys
 
 from bridging import whole
-from connecting import connected
+from connecting import connected, whole_answer
 from listening import Listener
 from drawing import seeded
 from tracing import counted, injected
@@ -41,11 +41,7 @@ class Line(Listener):
         message = whole(client)
         if not message or message.startswith(b"POST") and self.loses:
             return
-        with connected(PORT, 10) as server:
-            server.sendall(message)
-            answer = b""
-            while came := server.recv(65536):
-                answer += came
+        answer = whole_answer(PORT, message)
         if message.startswith(b"POST"):
             self.longest = len(answer)
             if self.left is not None:

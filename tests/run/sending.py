@@ -7,7 +7,7 @@ import sys
 import threading
 import time
 
-from connecting import connected, free_port
+from connecting import connected, free_port, whole_answer
 from killed import Server
 from listening import Listener
 
@@ -242,11 +242,7 @@ class Proxy(Listener):
         message = b""
         while not self.is_whole(message):
             message += client.recv(65536)
-        with connected(port, 10) as server:
-            server.sendall(message)
-            answer = b""
-            while came := server.recv(65536):
-                answer += came
+        answer = whole_answer(port, message)
         self.longest = max(self.longest, len(answer))
         if self.bytes_left is not None:
             answer, self.bytes_left = answer[: self.bytes_left], None
