@@ -14,7 +14,7 @@ curl curl
 sqlite3 sqlite3
 strace strace
 cc gcc libc6-dev
-nginx nginx
+nginx nginx libnginx-mod-http-lua
 ip iproute2
 node nodejs
 tsc node-typescript
