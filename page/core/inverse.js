@@ -34,8 +34,10 @@ export const wordOf = ({ path }) => path.split("/").at(-1);
 // The calls that take a change back; none where there is no way. `told` is its task before it, and `before` a title or role before it.
 /** @param {any} change @param {{told?: any, before?: any}} about @returns {{word: string, content?: any, expects?: any}[]} */
 export function inverseOf(change, { told, before } = {}) {
-    const content = change.body ? JSON.parse(change.body) : {};
-    return INVERSES[wordOf(change)]?.(content, { told, before, base: change.base ?? {} }) ?? [];
+    const back = INVERSES[wordOf(change)];
+    // (lines of todo.txt, of which there is no way back, are no JSON)
+    if (!back) return [];
+    return back(change.body ? JSON.parse(change.body) : {}, { told, before, base: change.base ?? {} });
 }
 
 const isSame = (one, other) => JSON.stringify(one ?? null) === JSON.stringify(other ?? null);

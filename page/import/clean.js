@@ -1,6 +1,6 @@
 // What an import's tasks are made to be, so that the server takes them as they were meant: what Taskwarrior writes is spelled as the server
 // reads it. All else of a text stays, byte for byte.
-import { fromFields, isTimed, seconds, toFields } from "../core/moments.js";
+import { fromFields, isTimed, momentOf, seconds, toFields } from "../core/moments.js";
 import { stepOf } from "../core/recurrence.js";
 
 // A text between quotes, a mark, or anything else, as a number; from an object's text, one after the other.
@@ -69,7 +69,8 @@ const DATES = ["due", "wait", "scheduled", "until"];
 function dayAlone(value) {
     const [, text] = /^"(\d{8}T\d{6}Z)"$/.exec(value) ?? [];
     const second = text && seconds(text);
-    if (!text || Number.isNaN(second) || isTimed(second)) return value;
+    // (a day that no month has stays, and is refused)
+    if (!text || Number.isNaN(second) || momentOf(second) !== text || isTimed(second)) return value;
     const day = fromFields({ ...toFields(second), time: "" });
     return day === text ? value : `"${day}"`;
 }

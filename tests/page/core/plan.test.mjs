@@ -62,6 +62,8 @@ test("a day stays the day of its reader", () => {
             assert.equal(JSON.parse(text).due, day);
             assert.equal(JSON.parse(text).entry, moment);
         }
+        const none = clean(`{"uuid":"${PLAIN}","description":"None","due":"20260230T000000Z"}`);
+        assert.deepEqual([none.changes, JSON.parse(none.text).due], [[], "20260230T000000Z"]);
         process.env.TZ = "Europe/Berlin";
         assert.match(clean(`{"due":"20261223T230000Z"}`).changes[0], /^due "20261223T230000Z" is "20261224T000000Z"$/);
         assert.deepEqual(clean(`{"due":"20261223T140000Z"}`).changes, []);

@@ -40,6 +40,7 @@ test("each change has its way back", () => {
     assert.deepEqual(inverseOf(change("title", { title: "New" }), { before: "Old" }), [{ word: "title", content: { title: "Old" }, expects: { title: "New" } }]);
     assert.deepEqual(inverseOf(change("roles", { member: "bob", role: "owner" }), { before: null }), [{ word: "roles", content: { member: "bob", role: null }, expects: { member: "bob", role: "owner" } }]);
     assert.deepEqual(inverseOf(change("sweep")), []);
+    assert.deepEqual(inverseOf({ path: "/boards/1/import-todo", body: "(A) Call Mom" }), []);
 });
 
 test("a way back knows what somebody changed since", () => {
