@@ -119,4 +119,9 @@ export function beginSignIn(showBoards) {
 }
 
 // To be called before any part of the page writes into it.
-export const keepUnused = () => (unused = document.body.innerHTML);
+export function keepUnused() {
+    // (index.html names the release, where whoever installs the page finds it)
+    find("sign-in-about").after(find("release"));
+    find("release").hidden = false;
+    unused = document.body.innerHTML;
+}

@@ -7,6 +7,7 @@ import json
 import os
 import pathlib
 import random
+import re
 import statistics
 import subprocess
 import sys
@@ -24,7 +25,7 @@ import page_look
 import page_several
 import page_views
 import page_words
-from office import ALL_ANSWERED, BACKSPACE, BROWSER, DOWN, ENTER, IS_LISTED, IS_TOLD, KEYS, LISTED, LOOK, PROGRAM, SHOTS, SLACK, Office, add, ask, descriptions, expect, new_board, tasks, tell
+from office import ALL_ANSWERED, BACKSPACE, BROWSER, DOWN, ENTER, IS_LISTED, IS_TOLD, KEYS, LISTED, LOOK, PAGE, PROGRAM, SHOTS, SLACK, Office, add, ask, descriptions, expect, new_board, tasks, tell
 from relay import LOSES_ANSWERS, LOSES_POSTS
 from talking import end_by_signal, make_file
 from webdriver import STRANGER, Browser
@@ -77,6 +78,7 @@ def first_steps(office):
     browser = office.browser
     office.sign_in("ann", "another-key")
     browser.wait(IS_TOLD, "doesn't know this name with this key")
+    expect_release(browser)
     office.shot("sign-in")
     office.enter("ann")
     browser.press("n")
@@ -106,6 +108,13 @@ def first_steps(office):
     repeat(office)
     browser.wait(ALL_ANSWERED)
     office.shot("tasks")
+
+
+def expect_release(browser):
+    """The sign-in names the newest release, as the changes head it."""
+    changes = (pathlib.Path(PAGE).parent / "CHANGELOG.md").read_text()
+    newest = re.search(r"^## (.*)$", changes, re.MULTILINE)[1]
+    expect("the release", f"Release {newest}", browser.run("return document.getElementById('release').innerText"))
 
 
 def by_keyboard(browser):
@@ -458,6 +467,7 @@ def last_steps(office):
     browser = office.browser
     browser.click("#sign-out")
     browser.wait("return document.getElementById('sign-in-form').offsetParent")
+    expect_release(browser)
     expect("what is kept but filters", [[], []], browser.run("return [sessionStorage, localStorage].map((place) => Object.keys(place).filter((key) => !/ (filters|looked)$/.test(key)))"))
     kept = browser.run(page_words.DEVICE)
     expect("the key, and what was searched for", [False, False], [KEYS["ann"] in kept, "text=" in kept])
