@@ -286,7 +286,7 @@ def hostile_texts(office):
         uuid_of = add(board, description=text, project=text, tags=[tag], own=text)
         ask(f"/boards/{board}/tasks/{uuid_of}/annotate", json.dumps({"description": text}).encode())
     browser.open(office.address)
-    browser.wait("return document.getElementById('count').textContent")
+    browser.wait("return document.getElementById('count')?.textContent")
     office.go(board)
     browser.wait("return document.querySelectorAll('#list .row').length === arguments[0]", len(code + turned + long))
     heights = set(browser.run("return [...document.querySelectorAll('#list .row')].map((row) => row.offsetHeight)"))
@@ -299,7 +299,7 @@ def hostile_texts(office):
         wide = browser.run("return document.documentElement.scrollWidth")
         expect("wider than the window", False, wide > 1280)
     office.shot("hostile-task")
-    expect("scripts and images", [1, 2], browser.run("return [document.scripts.length, document.images.length]"))
+    expect("scripts and images", [1, 1], browser.run("return [document.scripts.length, document.images.length]"))
     expect("code ran", None, browser.run("return window.ran ?? null"))
     browser.click("#close-panel")
 
@@ -345,6 +345,9 @@ def imports(office):
     [file] = saved_files("Taken-in-*.json", browser.patience)
     expect("the export as a file", ask(f"/boards/{board}/export"), file.read_text())
     browser.wait("return document.querySelectorAll('#notices button').length === 2")
+    # (they would be told on every board)
+    browser.run("document.querySelectorAll('#notices button').forEach((away) => away.click())")
+    browser.wait("return document.querySelectorAll('#notices li').length === 0")
 
 
 def saved_files(pattern, patience):

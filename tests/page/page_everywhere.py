@@ -16,6 +16,8 @@ KEPT = """return caches.keys().then(async (names) => {
     const caught = await Promise.all(names.map(async (name) => (await caches.open(name)).keys()));
     return [names.length, caught.flat().map(({ url }) => new URL(url).pathname).sort()];
 })"""
+# Modules that no other one imports yet.
+AHEAD = ("/core/checklist.js", "/core/mentions.js", "/core/order.js")
 IS_CONTROLLED = "return Boolean(navigator.serviceWorker.controller)"
 # Once the copy of a board stands on the device.
 IS_SEEN = """return new Promise((done) => {
@@ -50,7 +52,7 @@ def without_a_line(office):
     browser.wait(IS_LISTED, "Read on the way")
     expect("files loaded at a second start", [], files_asked(office))
     names = {"/" if path == "index.html" else f"/{path}" for path in page_content.files_of(pathlib.Path(PAGE))}
-    expect("files that are kept", [1, sorted(names - {"/worker.js", "/types.js"} | {"/kept/compared"})], browser.run(KEPT))
+    expect("files that are kept", [1, sorted(names - {"/worker.js", "/types.js", *AHEAD} | {"/kept/compared"})], browser.run(KEPT))
     office.server.end()
     browser.open("about:blank")
     browser.open(f"{office.address}#/{board}/tasks")
@@ -470,7 +472,7 @@ return [...buttons("header").filter(isCut), ...buttons(".filters").filter(isCut)
 
 
 # Whether the last button of the messages is what a finger meets in its place.
-IS_ON_TOP = """const button = [...document.querySelectorAll("#notices button")].at(-1), { left, top, width, height } = button.getBoundingClientRect();
+IS_ON_TOP = """const button = [...document.querySelectorAll("#notices li:not(.elsewhere) button")].at(-1), { left, top, width, height } = button.getBoundingClientRect();
 return document.elementFromPoint(left + width / 2, top + height / 2) === button"""
 
 
@@ -492,7 +494,7 @@ def on_a_phone(office):
     office.go(board, "tasks", task)
     browser.wait(IS_OPEN)
     browser.wait(IS_ON_TOP)
-    browser.run("[...document.querySelectorAll('#notices button')].at(-1).click()")
+    browser.run("[...document.querySelectorAll('#notices li:not(.elsewhere) button')].at(-1).click()")
     browser.wait("return document.querySelectorAll('#notices .refused').length === 0")
     behind_a_task(office, board, task)
 

@@ -6,6 +6,8 @@ import time
 
 from office import ALL_ANSWERED, ENTER, IS_TOLD, add, ask, expect, new_board, tasks, tell
 
+# The last message of this board is dismissed. (Those of other boards are told behind it.)
+DISMISS = "[...document.querySelectorAll('#notices li:not(.elsewhere) button')].at(-1).click()"
 ID = "00000000-0000-4000-9000-00000000000{}"
 
 
@@ -60,7 +62,7 @@ def the_rest(office):
     stored = {task["description"]: task for task in tasks(board)}
     expect("taken", {"Instance", "Template", "Tab\there", "Waits for the circle", "Sound"}, set(stored))
     expect("an instance in its place", [0, "biweekly", [ID.format(2)]], [stored["Instance"].get("imask"), stored["Template"]["recur"], stored["Waits for the circle"]["depends"]])
-    browser.run("[...document.querySelectorAll('#notices button')].at(-1).click()")
+    browser.run(DISMISS)
     choose_file(browser, "torn.json", json.dumps([{"uuid": ID.format(9), "description": "Whole"}, {"uuid": ID.format(8), "description": "Torn"}])[:-8])
     expect("a file that breaks off", True, told(browser)[0][1][0].endswith("the file breaks off in it"))
     for encoding, is_told in (("latin-1", True), ("utf-8", False)):
@@ -108,7 +110,7 @@ def full_board(office):
     expect("the old board", before, tasks(board))
     expect("people", json.loads(ask(f"/boards/{board}/people"))["people"], json.loads(ask(f"/boards/{made}/people"))["people"])
     expect("tasks", [task for task in before if task["status"] in ("pending", "waiting", "recurring")], sorted(tasks(made), key=lambda task: [one["uuid"] for one in before].index(task["uuid"])))
-    browser.run("[...document.querySelectorAll('#notices button')].at(-1).click()")
+    browser.run(DISMISS)
 
 
 def sweeps_once(office):
@@ -215,7 +217,7 @@ def places_of_instances(office):
     expect("who has a place", {"Has it": 0, "Free": 1, "First": 0}, {name: task["imask"] for name, task in stored.items() if "imask" in task})
     expect("a deleted template", ["weekly", "+"], [stored["Deleted template"].get(name) for name in ("recur", "mask")])
     expect("numbers", [2**53 + 1, 2**63 - 1, None], [stored["Numbers"].get(name) for name in ("whole", "most", "power")])
-    browser.run("[...document.querySelectorAll('#notices button')].at(-1).click()")
+    browser.run(DISMISS)
     office.go(board)
 
 
@@ -234,7 +236,7 @@ def template_that_waits(office):
     browser.wait(ALL_ANSWERED)
     browser.wait(IS_TOLD, "(2 of 2 parts): 1,202 new; 0 known already, which stay as they are; 1 link to an unknown task dropped.")
     expect("the instance", [0], [task.get("imask") for task in tasks(board) if task["description"] == "Its own"])
-    browser.run("[...document.querySelectorAll('#notices button')].at(-1).click()")
+    browser.run(DISMISS)
     office.go(board)
 
 

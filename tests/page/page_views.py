@@ -283,7 +283,7 @@ def addresses(office):
     browser.run("location.hash = '#/9999/tasks'")
     browser.wait(IS_TOLD, "You have no role on board 9999, or it isn't there")
     office.shot("unknown")
-    browser.run("const boards = document.getElementById('board'); boards.value = arguments[0]; boards.dispatchEvent(new Event('change'))", str(board))
+    browser.click(f"#boards a[href='#/{board}/tasks']")
     browser.wait(ARE_LISTED, both)
 
 
