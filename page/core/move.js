@@ -2,6 +2,7 @@
 import { changes } from "./calls.js";
 import { counted } from "./format.js";
 import { newIdentifier } from "./identifier.js";
+import { momentOf, now } from "./moments.js";
 
 // A task goes behind those on which it depends, since an import knows only links to tasks that are there.
 function inOrder(tasks) {
@@ -19,11 +20,19 @@ function inOrder(tasks) {
     return [...ordered];
 }
 
-// The task as the server tells it, byte for byte but for its name and links: it has a new name, since the other board may have had it before.
-// What makes it an instance stays behind with its template.
-function lineFor(task, names) {
+// The line of a task with a note more.
+const NOTES = /"annotations":\[(?:[^"\]]|"[^"\\]*(?:\\.[^"\\]*)*")*(?=\])/;
+
+function withNote(line, description) {
+    const note = JSON.stringify({ description, entry: momentOf(now()) });
+    return NOTES.test(line) ? line.replace(NOTES, (notes) => `${notes}${notes.endsWith("[") ? "" : ","}${note}`) : line.replace("{", () => `{"annotations":[${note}],`);
+}
+
+// The task as the server tells it, byte for byte but for its name and links, and with a note of where it comes from: it has a new name, since
+// the other board may have had it before. What makes it an instance stays behind with its template.
+function lineFor(task, names, origin) {
     const links = task.depends.map((uuid) => names.get(uuid)).filter(Boolean);
-    return task.line
+    return withNote(task.line, origin(task))
         .replace(`"uuid":"${task.uuid}"`, `"uuid":"${names.get(task.uuid)}"`)
         .replace(/"depends":\[[^\]]*\]/, `"depends":${JSON.stringify(links)}`)
         .replace(/"imask":\d+,/, "")
@@ -47,8 +56,8 @@ export function leftBehind(tasks, all) {
     ].filter(Boolean);
 }
 
-// For each task a group of changes: its import there, and then its deletion here.
-export function moves(board, tasks, to) {
+// For each task a group of changes: its import there, and then its deletion here. `origin` says of a task where it comes from.
+export function moves(board, tasks, to, origin) {
     const names = new Map(tasks.map(({ uuid }) => [uuid, newIdentifier()]));
-    return inOrder(tasks).map((task) => [changes.moveIn(to, task, lineFor(task, names)), changes.act(board, task, "delete")]);
+    return inOrder(tasks).map((task) => [changes.moveIn(to, task, lineFor(task, names, origin)), changes.act(board, task, "delete")]);
 }

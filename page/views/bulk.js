@@ -124,8 +124,10 @@ function move(to) {
     const tasks = picked().filter((task) => task.isListed);
     const title = oneLine(state.boards.find(({ board }) => board === to).title, 60);
     if (tasks.length > 0 && !confirm(aboutMove(tasks, title))) return;
+    // (what was done with it before is in the history of the board that it leaves)
+    const origin = ({ uuid }) => `Moved by ${state.who.name} from “${oneLine(here().title, 120)}”: ${location.origin}${location.pathname}#/${number}/tasks/${uuid}`;
     pickNone();
-    hold(moves(number, tasks, to), `Moving to ${title}: ${tasksIn(tasks.length)}.`).catch(tellFault);
+    hold(moves(number, tasks, to, origin), `Moving to ${title}: ${tasksIn(tasks.length)}.`).catch(tellFault);
 }
 
 function drawSelects() {

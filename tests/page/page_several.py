@@ -274,7 +274,7 @@ def moves(office):
     there = new_board("There")
     board = new_board("From here")
     ground = add(board, description="Ground", tags=["a"], big=9007199254740993, assignee="ann")
-    add(board, description="Upon it", depends=[ground])
+    upon = add(board, description="Upon it", depends=[ground])
     add(board, description="Stays", depends=[ground])
     office.begin(board)
     browser.wait("return document.getElementById('count').textContent === '3 of 3 tasks'")
@@ -296,6 +296,8 @@ def moves(office):
     kept = {name: first[name] for name in ("description", "tags", "big", "assignee", "status")}
     expect("there", {"description": "Ground", "tags": ["a"], "big": 9007199254740993, "assignee": "ann", "status": "pending"}, kept)
     expect("its link", ["Upon it", [first["uuid"]]], [second["description"], second["depends"]])
+    origins = [f"Moved by ann from “From here”: {office.address}#/{board}/tasks/{uuid}" for uuid in (ground, upon)]
+    expect("where they come from", [[origin] for origin in origins], [[note["description"] for note in task["annotations"]] for task in (first, second)])
     browser.wait(ARE_LISTED, ["Stays"])
 
 
