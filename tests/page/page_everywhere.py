@@ -409,6 +409,20 @@ def on_paper(office):
         pathlib.Path(SHOTS, "print.pdf").write_bytes(paper)
     browser.tell("Emulation.setEmulatedMedia", media="")
     browser.click("#close-panel")
+    columns_on_paper(browser)
+
+
+def columns_on_paper(browser):
+    """All four columns stand on a page, and none has a bar to scroll it."""
+    browser.click("#as-columns")
+    browser.wait("return document.querySelectorAll('#columns .card').length > 0")
+    browser.tell("Emulation.setEmulatedMedia", media="print")
+    browser.size(720, 1000)
+    cut = "return [...document.querySelectorAll('#columns, .column, .column ul')].filter((part) => part.getBoundingClientRect().right > innerWidth || part.scrollWidth > part.clientWidth + 1 || part.scrollHeight > part.clientHeight + 1).map((part) => part.id || part.parentElement.id)"
+    expect("columns that are cut off on paper", [4, []], [browser.run("return document.querySelectorAll('.column').length"), browser.run(cut)])
+    browser.tell("Emulation.setEmulatedMedia", media="")
+    browser.size(1280, 900)
+    browser.click("#as-list")
 
 
 def for_readers(office):
