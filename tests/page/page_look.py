@@ -191,6 +191,18 @@ def by_letters(office):
     entries = [entry["what"] for entry in json.loads(ask(f"/boards/{board}/history"))["entries"]]
     expect("a call for each value", ["role", "add", "add", "modify", "modify", "modify"], entries)
     palette(browser, second)
+    from_list_to_list(office, board)
+
+
+def from_list_to_list(office, board):
+    """Keys that show another list of tasks leave the focus on a row there, where keys go on, and not in a field."""
+    browser = office.browser
+    tell(f"/boards/{board}/tasks/{tasks(board)[1]['uuid']}/start")
+    browser.run("document.querySelector('#list .open').focus()")
+    for place, key in (("columns", "c"), ("list", "l"), ("day-list", "0"), ("list", "1")):
+        browser.press(key)
+        browser.wait("return document.activeElement.matches(`#${arguments[0]} .open`)", place)
+    office.go(board)
 
 
 def palette(browser, title):
