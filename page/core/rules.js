@@ -62,6 +62,9 @@ export function faultInMoment(day, time, moment) {
 // No refusal: a task whose wait is over doesn't wait.
 export const faultInWait = (moment) => (moment && seconds(moment) <= now() ? "This is past, so the task wouldn't wait. Choose a later day, or a later time." : "");
 
+// A name as it is meant: without the capital or the space that a keyboard or a mail added.
+export const nameMeant = (text) => text.trim().toLowerCase();
+
 // 400 BadBody: the name of a person.
 export function faultInName(text) {
     if (!text) return "";

@@ -1,7 +1,7 @@
 // The view of the people on a board and their roles, of adding a person, and of other people's keys.
 import { changes, isOfFirst } from "../core/calls.js";
 import { listen } from "../core/news.js";
-import { faultInKey, faultInName } from "../core/rules.js";
+import { faultInKey, faultInName, nameMeant } from "../core/rules.js";
 import { keep, keepFrom } from "../sync/outbox.js";
 import { lookOrSeen } from "../sync/seen.js";
 import { newKey } from "../sync/session.js";
@@ -148,7 +148,7 @@ function makeKey() {
 }
 
 async function addPerson(form) {
-    const [name, key, role] = ["person-name", "person-key", "person-role"].map((id) => find(id).value.trim());
+    const [name, key, role] = [nameMeant(find("person-name").value), find("person-key").value.trim(), find("person-role").value];
     const joins = isOwner() && find("person-here").checked;
     if (!isWhole(form)) return;
     const made = [changes.person(name, key, { role, joins }), ...(joins ? [changes.role(state.number, name, role)] : [])];
@@ -164,7 +164,7 @@ function isMeant(name, role) {
 }
 
 async function invite(form) {
-    const [name, role] = ["invite-name", "invite-role"].map((id) => find(id).value.trim());
+    const [name, role] = [nameMeant(find("invite-name").value), find("invite-role").value];
     if (!isWhole(form) || !isMeant(name, role)) return;
     await drafts.invite.send(() => keepFrom(form, changes.role(state.number, name, role)));
 }
@@ -172,8 +172,8 @@ async function invite(form) {
 function beginKeysOfOthers() {
     const input = find("keys-name");
     const endDraft = (isDone) => isDone && drafts.keys.drop();
-    const withName = (act) => () => isWhole(find("keys-form")) && act(input.value.trim()).then(endDraft).catch(tellFault);
-    check(input, (text) => (text.trim() === state.who?.name ? "You change your own key by a click on your name, at the top." : faultInName(text.trim())));
+    const withName = (act) => () => isWhole(find("keys-form")) && act(nameMeant(input.value)).then(endDraft).catch(tellFault);
+    check(input, (text) => (nameMeant(text) === state.who?.name ? "You change your own key by a click on your name, at the top." : faultInName(nameMeant(text))));
     whenSent("keys-form", withName(giveKey));
     find("keys-end").addEventListener("click", withName(lockOut));
     find("keys-boards").addEventListener("click", withName(showBoardsOf));
@@ -191,7 +191,7 @@ export function beginPeople() {
     beginDrafts();
     find("make-key").addEventListener("click", makeKey);
     whenSent("person-form", (form) => addPerson(form).catch(tellFault));
-    for (const id of ["person-name", "invite-name"]) check(find(id), (text) => faultInName(text.trim()));
+    for (const id of ["person-name", "invite-name"]) check(find(id), (text) => faultInName(nameMeant(text)));
     check(find("person-key"), (text) => faultInKey(text.trim()));
     beginKeysOfOthers();
     whenSent("invite-form", (form) => invite(form).catch(tellFault));

@@ -1,6 +1,6 @@
 // Signing in and out.
 import { announce, listen } from "../core/news.js";
-import { faultInKey, faultInName } from "../core/rules.js";
+import { faultInKey, faultInName, nameMeant } from "../core/rules.js";
 import { look, Refused } from "../sync/http.js";
 import { forgetChanged, forgetSession, keepSession, keyToFinish, readSession, SESSION } from "../sync/session.js";
 import { state } from "../store/store.js";
@@ -35,9 +35,9 @@ function showForm(fault = "") {
     find("sign-in").hidden = false;
     find("sign-in-fault").textContent = fault;
     document.title = "taskboard";
-    check(find("name"), (text) => faultInName(text.trim()));
-    check(find("key"), faultInKey);
-    whenSent("sign-in-form", (form) => isWhole(form) && signIn({ name: find("name").value.trim(), key: find("key").value }, find("remember").checked));
+    check(find("name"), (text) => faultInName(nameMeant(text)));
+    check(find("key"), (text) => faultInKey(text.trim()));
+    whenSent("sign-in-form", (form) => isWhole(form) && signIn({ name: nameMeant(find("name").value), key: find("key").value.trim() }, find("remember").checked));
     forgetChanged().catch(console.warn);
     drawWaiting();
     find("name").focus();

@@ -80,7 +80,9 @@ def first_steps(office):
     browser.wait(IS_TOLD, "doesn't know this name with this key")
     expect_release(browser)
     office.shot("sign-in")
-    office.enter("ann")
+    office.sign_in("Ann ", KEYS["ann"] + " ")
+    browser.wait("return document.getElementById('count')?.textContent")
+    expect("who is in", "ann", browser.run("return document.getElementById('who').textContent"))
     browser.press("n")
     expect("where a key leads after signing in", "add-line", browser.run("return document.activeElement.id"))
     for line in ("(A) Call Mom +Family @phone due:2026-01-31", "Buy milk @shop", "Paint the fence"):
@@ -157,7 +159,7 @@ def people(office):
     browser = office.browser
     office.go(1, "people")
     browser.wait("return document.querySelectorAll('#people li').length === 1")
-    browser.type("#person-name", "bob")
+    browser.type("#person-name", "Bob ")
     browser.type("#person-key", KEYS["bob"] + ENTER)
     browser.wait("return document.querySelectorAll('#people li').length === 2")
     browser.wait(ALL_ANSWERED)
