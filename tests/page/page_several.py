@@ -227,6 +227,7 @@ def many_refused(office):
         browser.wait(told, 20)
         browser.wait(IS_TOLD, "And 10 more such messages.")
         browser.wait(ALL_ANSWERED)
+        expect("what is told of the state", "30 things need you", browser.run("return document.getElementById('state').textContent"))
         tell(f"/boards/{board}/roles", member="bob", role=role)
         browser.run("const [words] = arguments; setTimeout(() => [...document.querySelectorAll('#notices button')].find((button) => button.textContent === words).click())", press_at)
         if role == "reader":
