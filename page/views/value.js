@@ -88,7 +88,7 @@ class Choosing {
 
 function openChoosing(anchor, settings, backTo) {
     const choosing = new Choosing({ ...settings, choose: (value) => [own.close(), settings.choose(value)] });
-    const own = openPopover(anchor, settings.label, choosing.children, { kind: "choosing", backTo });
+    const own = openPopover(anchor, settings.label, choosing.children, { kind: "value-choices", backTo });
     return own;
 }
 

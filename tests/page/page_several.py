@@ -44,9 +44,12 @@ def several(office):
     office.begin(board)
     shown = ["Delta", "Alpha", "Beta", "Gamma"]
     browser.wait(ARE_LISTED, shown)
+    width = "return document.getElementById('list').offsetWidth"
+    before = browser.run(width)
     browser.run("document.querySelector('#list .open').focus()")
     press(browser, "x")
     browser.wait(IS_PICKED, "1 chosen")
+    expect("the width of the list with boxes", before, browser.run(width))
     press(browser, DOWN, DOWN, held=SHIFT)
     browser.wait(IS_PICKED, "3 chosen")
     office.shot("several")
