@@ -33,6 +33,8 @@ let [lastLook, lastNews, lastMe, lastTick, lastAct, lastTyped, lastBoards, showi
 let lookTook = 0;
 // The board whose history is known, and up to which number; and whether something has happened on it that isn't shown.
 let [heard, isStale] = [{ number: 0, last: 0 }, false];
+// The board that a look under way loads.
+let coming = 0;
 // What the last look at its history told; and of the other boards: when one was asked last, which, and whether that is under way.
 let [news, lastOther, turn, isHearing] = [null, 0, 0, false];
 // After how long a copy is compared with the server's whole, in milliseconds.
@@ -103,6 +105,7 @@ const showSeen = () => (showing = showing.then(showSeenBoard).catch(console.warn
 async function lookAtBoard() {
     const { who, number } = state;
     if (!here()) return;
+    coming = number;
     lastLook = performance.now();
     const isOld = !isActive() && Date.now() - checkedAt(number) > CHECKED;
     isStale = false;
@@ -119,6 +122,7 @@ const isTooSoon = () => waiting().length > 0 && performance.now() - lastLook < M
 const isTyping = () => performance.now() - lastTyped <= TYPING;
 const isActive = () => performance.now() - lastAct < IDLE_AFTER;
 const isLoaded = () => state.board?.number === state.number && !state.board.isSeen;
+const isComing = () => coming > 0 && coming === state.number;
 
 // Asks what has happened on the board, from the next number on; at first from the last one that its reader saw. Gives whether the board has to
 // be loaded at once.
@@ -181,6 +185,7 @@ async function lookOnce() {
     if (withBoards) await lookAtBoards();
     const withBoard = wantsBoard || !isThere || !hasHistory() || heard.number !== state.number;
     [isWanted, wantsBoard] = [false, false];
+    coming = withBoard && here() ? state.number : 0;
     const isNews = await lookAtNews();
     if (withBoard || isNews) await lookAtBoard();
     isWanted ||= wantsBoards;
@@ -212,7 +217,7 @@ async function ask(withBoard = false, withBoards = false) {
         else if (who.key === key) doubtKey(who, key).catch(console.error);
         else isRekeyed = true;
     } finally {
-        isAsking = false;
+        [isAsking, coming] = [false, 0];
     }
     if (isRekeyed && state.who === who) lookAgain(true);
 }
@@ -220,11 +225,16 @@ async function ask(withBoard = false, withBoards = false) {
 // Loads the board, and asks for the boards first where that is wanted.
 export const lookAgain = (withBoards = false) => ask(true, withBoards);
 
+// Loads the board that is to be shown, unless it is there or on its way.
+export function lookWhereMissing() {
+    if (state.number && state.board?.number !== state.number && !isComing()) lookAgain();
+}
+
 // Where someone looks at the page.
 function lookIfSeen() {
     if (!state.who || document.hidden || performance.now() - lastLook < LEAST) return;
     tick();
-    if (hasHistory() && isLoaded()) ask(isStale);
+    if (hasHistory() && (isLoaded() || isComing())) ask(isStale);
     else lookAgain(true);
 }
 
@@ -261,7 +271,7 @@ function hearByClock() {
         hearNext();
     }
     if (isFree && isLoaded() && past - lastLook > LEAST && !isTooSoon() && isStale) lookAgain();
-    else if (past - Math.max(lastNews, lastLook) >= (document.hidden ? IDLE : NEWS)) ask(isFree && !isLoaded());
+    else if (past - Math.max(lastNews, lastLook) >= (document.hidden ? IDLE : NEWS)) ask(isFree && !isLoaded() && !isComing());
 }
 
 // Looks where it is time, and nobody is typing.

@@ -1,7 +1,7 @@
 // What stands around the views: the bar above them, what the page tells, which board and which view are shown.
 import { oneLine } from "../core/format.js";
 import { announce, listen } from "../core/news.js";
-import { lookAgain, lookAtBoards } from "../store/fresh.js";
+import { lookAgain, lookAtBoards, lookWhereMissing } from "../store/fresh.js";
 import { goInstead, readRoute } from "../store/route.js";
 import { here, state, VIEWS } from "../store/store.js";
 import { find } from "../ui/element.js";
@@ -94,7 +94,7 @@ export async function showRoute() {
     if (!state.who) return;
     if (state.boards.length > 0) drawBoards();
     announce("route");
-    if (state.number && state.board?.number !== state.number) lookAgain();
+    lookWhereMissing();
 }
 
 export function beginShell() {

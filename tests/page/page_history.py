@@ -8,13 +8,16 @@ from page_words import heal, one_of, open_edit, open_task, press, type_into
 from relay import LOSES_POSTS
 
 KEYS["cleo"] = "cleo-key-1"
-IS_SHOWN = "return Boolean(document.getElementById(arguments[0])?.checkVisibility())"
+# (what a menu has is there once the menu is open)
+IS_SHOWN = "const part = document.getElementById(arguments[0]); return Boolean(part?.closest('[popover]') ? !part.hidden : part?.checkVisibility())"
 # What was done, a line each, without its moment.
 DEEDS = "return [...document.querySelectorAll(`${arguments[0]} .deed`)].map((row) => row.firstChild.innerText)"
 ARE_DEEDS = DEEDS.replace("return", "return JSON.stringify(", 1) + ") === JSON.stringify(arguments[1])"
 CHOOSE = "const select = document.getElementById(arguments[0]); select.value = arguments[1]; select.dispatchEvent(new Event('input'))"
 # From here on the page's clock for pauses is ahead by so many seconds.
 CLOCK = "const real = performance.now.bind(performance); window.ahead = 0; performance.now = () => real() + window.ahead"
+# A number that no entry of a history has, by which its last one is asked for.
+BEYOND = 2**32 - 1
 PASS = "window.ahead += 1000 * arguments[0]; if (arguments[1]) dispatchEvent(new Event('pointermove'))"
 # A server of before answers so for the history's views.
 WITHOUT = """const asked = window.fetch;
@@ -175,22 +178,23 @@ def named(office):
 
 
 def asked_little(office):
-    """The history is asked every 3 s in sight, and only the tasks of which it tells something; a hidden page asks every 60 s."""
+    """The board is asked for once, as it opens; then its history every 3 s in sight, and only the tasks of which it tells something."""
     browser, board = office.browser, new_board("Little", bob="member")
     task = add(board, description="Paint the fence")
     office.begin(board)
     browser.wait(IS_SHOWN, "to-history")
     export, view = f"/boards/{board}/export", f"/boards/{board}/tasks/{task}"
     last = json.loads(ask(f"/boards/{board}/history"))["last"]
-    before, looks = times_asked(office, export), times_asked(office, view)
+    opening = [export, *(f"/boards/{board}/history/{number}" for number in (BEYOND, last))]
     end = time.monotonic() + 12
     while times_asked(office, f"/boards/{board}/history/{last + 1}") < 3 and time.monotonic() < end:
         time.sleep(0.1)
     expect("asked for what is next, at least", 3, min(3, times_asked(office, f"/boards/{board}/history/{last + 1}")))
-    expect("the task, while nothing happens", looks, times_asked(office, view))
+    expect("the board, as it opens and while nothing happens", [1, 1, 1], [times_asked(office, path) for path in opening])
+    expect("the task, while nothing happens", 0, times_asked(office, view))
     tell(f"/boards/{board}/tasks/{task}/modify", "bob", description="Paint the long fence")
     browser.wait(IS_LISTED, "Paint the long fence")
-    expect("the task, once something happened", looks + 1, times_asked(office, view))
+    expect("the task, once something happened", 1, times_asked(office, view))
     browser.run("document.querySelector('#list .tick').click()")
     browser.wait(ALL_ANSWERED)
     browser.wait("return document.getElementById('count').textContent.startsWith('0 of')")
@@ -199,8 +203,8 @@ def asked_little(office):
     while not times_asked(office, f"/boards/{board}/history/{number}"):
         browser.run(PASS, 1, True)
         time.sleep(0.2)
-    expect("the task, after one's own change", looks + 2, times_asked(office, view))
-    expect("the board", before, times_asked(office, export))
+    expect("the task, after one's own change", 2, times_asked(office, view))
+    expect("the board, after all that", [1, 1, 1], [times_asked(office, path) for path in opening])
     tell(f"/boards/{board}/tasks/{task}/reopen")
     tell(f"/boards/{board}/tasks/{task}/modify", wait=at(5))
     browser.wait("return document.querySelector('#list .chip.waiting')")
