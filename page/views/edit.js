@@ -128,7 +128,7 @@ async function settersOf(task) {
 // Both texts beside each other; the one that is chosen is what Save goes on with.
 function choice(name, mine, theirs, by) {
     const option = (value, label, text) =>
-        make("label", { class: "side" }, make("span", {}, make("input", { type: "radio", name: `side-${name}`, value, required: true }), ` ${label}`), make("bdi", { class: "long" }, worded(name, text)));
+        make("label", { class: "version" }, make("span", {}, make("input", { type: "radio", name: `side-${name}`, value, required: true }), ` ${label}`), make("bdi", { class: "long" }, worded(name, text)));
     return make("fieldset", { class: "conflict", "data-name": name }, make("legend", {}, `T${labelOf(name).slice(1)} was changed by ${by} meanwhile. Choose one:`), option("mine", "Yours", mine), option("theirs", "Theirs", theirs));
 }
 
