@@ -4,7 +4,7 @@
 // A browser asks for the worker at each start, and a page that stays open every few minutes; it is installed anew where a byte of it differs. The
 // next line, made by tests/page/page_content.py, differs with every other file, so a new version is found then, also where its files are as long as
 // before.
-// Content of the other files: 55e9e9d166936b5ebc4992d21b83c7334a7d87f664eb8cc1bf1c67eee7cea9cf
+// Content of the other files: fcd9ec212bab848820e17c6580a64f206552382a1d1f2f151766d7a9ffd9aaae
 
 const VERSION = "taskboard ";
 const FILE = /^\/(?:(?:[a-z0-9_-]+\/)?[a-z0-9_.-]+\.(?:html|css|js|svg|png|ico))?$/;
