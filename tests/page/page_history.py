@@ -168,6 +168,8 @@ def named(office):
     browser.wait(IS_TOLD, "The description was changed by cleo meanwhile. Choose one:")
     browser.size(390, 844)
     expect("choices that are seen in a narrow window", [True, True], browser.run("return [...document.querySelectorAll('.conflict label')].map((label) => label.checkVisibility({ visibilityProperty: true }) && label.getBoundingClientRect().left >= 0)"))
+    browser.run("document.getElementById('panel').scrollTo(0, 0)")
+    expect("Save stands at the foot, and no pencil beside the fields", [True, False], browser.run("return [Math.abs(document.getElementById('cancel-edit').parentElement.getBoundingClientRect().bottom - innerHeight) <= 1, document.getElementById('rename').checkVisibility()]"))
     browser.size(1280, 900)
     browser.click("#cancel-edit")
     browser.click("#close-panel")

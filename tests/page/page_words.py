@@ -631,7 +631,7 @@ def signing_out(office):
             office.shot("sign-in-waiting")
         browser.type("#name", "ann")
         browser.type("#key", KEYS["ann"] + ENTER)
-        browser.wait("return document.getElementById('count').textContent")
+        browser.wait("return document.getElementById('count')?.textContent")
         if way == "keep":
             browser.wait(IS_TOLD, "3 changes wait here")
         heal(office)
