@@ -4,7 +4,7 @@
 // A browser asks for the worker at each start, and a page that stays open every few minutes; it is installed anew where a byte of it differs. The
 // next line, made by tests/page/page_content.py, differs with every other file, so a new version is found then, also where its files are as long as
 // before.
-// Content of the other files: 36b60e281765b49a732db7a7ee5805a4bff20978ccd42066cc14cc3ff52182f3
+// Content of the other files: 64cb11f98cfd892ffc1e29d910f4f06ad5bdac48470acd17060c054ce4351e72
 
 const VERSION = "taskboard ";
 const FILE = /^\/(?:(?:[a-z0-9_-]+\/)?[a-z0-9_.-]+\.(?:html|css|js|svg|png|ico))?$/;

@@ -42,6 +42,7 @@ const read = (line) => readLine(line, { people: names(), me: state.who?.name });
 const readNow = () => read(find("add-line").value);
 
 // What a line and the fields say together; the fields go first.
+/** @param {{ task: any }} read */
 function newTask({ task: line } = readNow()) {
     const given = fields.read();
     const both = { ...line, ...Object.fromEntries(Object.entries(given).filter(([, value]) => value)) };
@@ -202,6 +203,7 @@ async function add() {
 }
 
 // The tasks of a list, a line each. What is ticked is completed; a heading is the project of the lines below it.
+/** @returns {{ line: string, task: any }[]} */
 function tasksIn(text) {
     let project = "";
     const tasks = [];

@@ -1,6 +1,6 @@
 // The header: which board or view is shown, who is on it, its layouts, search and filters, and a menu with all that is rarer.
 import { oneLine } from "../core/format.js";
-import { listen } from "../core/news.js";
+import { listenAll } from "../core/news.js";
 import { here, state } from "../store/store.js";
 import { fill, find } from "../ui/element.js";
 import { face } from "../ui/face.js";
@@ -64,7 +64,7 @@ export function beginHeader() {
         toggleStar(state.number);
         drawHeader();
     });
-    for (const news of ["people", "boards", "route", "filter"]) listen(news, drawHeader);
+    listenAll(["people", "boards", "route", "filter"], drawHeader);
 }
 
 export const titleOf = () => (state.view === "day" ? "My day" : oneLine(here()?.title ?? ""));

@@ -48,9 +48,9 @@ export const MARKUP = `
 
 // The roles that are known here, and those that the server tells of.
 const roles = new Set(["owner", "member", "reader"]);
-// The people that are shown, and whose key is told; the drafts of the forms, by their kinds.
-/** @type {[string, string, any]} */
-let [shown, keyed, drafts] = ["", "", {}];
+// The people that are shown; the drafts of the forms, by their kinds.
+/** @type {[string, any]} */
+let [shown, drafts] = ["", {}];
 
 // Set once the server said that someone isn't the first person.
 const refusedTo = (name) => `taskboard.adds-nobody ${name}`;

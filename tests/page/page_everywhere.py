@@ -16,8 +16,6 @@ KEPT = """return caches.keys().then(async (names) => {
     const caught = await Promise.all(names.map(async (name) => (await caches.open(name)).keys()));
     return [names.length, caught.flat().map(({ url }) => new URL(url).pathname).sort()];
 })"""
-# Modules that no other one imports yet.
-AHEAD = ("/core/checklist.js", "/core/mentions.js", "/core/order.js")
 IS_CONTROLLED = "return Boolean(navigator.serviceWorker.controller)"
 # Once the copy of a board stands on the device.
 IS_SEEN = """return new Promise((done) => {
@@ -52,7 +50,7 @@ def without_a_line(office):
     browser.wait(IS_LISTED, "Read on the way")
     expect("files loaded at a second start", [], files_asked(office))
     names = {"/" if path == "index.html" else f"/{path}" for path in page_content.files_of(pathlib.Path(PAGE))}
-    expect("files that are kept", [1, sorted(names - {"/worker.js", "/types.js", *AHEAD} | {"/kept/compared"})], browser.run(KEPT))
+    expect("files that are kept", [1, sorted(names - {"/worker.js", "/types.js"} | {"/kept/compared"})], browser.run(KEPT))
     office.server.end()
     browser.open("about:blank")
     browser.open(f"{office.address}#/{board}/tasks")
