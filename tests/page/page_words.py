@@ -269,6 +269,7 @@ def told_before(office):
         type_into(browser, "#ahead", ahead + ENTER)
         browser.wait("return document.getElementById('ahead-form').textContent.includes('A board looks 1 to 12 instances ahead.')")
     office.go(board, "people")
+    browser.wait(IS_SHOWN, "#person-name")
     for name, key, told in (("Carol", "carolas-key-1", "A name has small letters"), ("c" * 33, "carolas-key-1", "1 bytes too long"), ("carola", "short", "8 characters at least"), ("carola", "a key with spaces", "no spaces")):
         type_into(browser, "#person-name", name)
         type_into(browser, "#person-key", key + ENTER)
