@@ -4,7 +4,6 @@ pub mod Deeds
 pub mod Json
 pub mod Listing
 pub mod Showing
-pub mod Names
 pub mod Order
 pub mod Table
 pub mod Tests

@@ -9,7 +9,6 @@ mod finding;
 mod json;
 mod listing;
 mod look;
-mod names;
 mod showing;
 mod table;
 mod tests;

@@ -1,6 +1,4 @@
-mod Changed
 mod Fields
 mod Floatless
 mod Keys
-mod Loops
 mod Weekdays

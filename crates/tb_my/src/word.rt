@@ -6,9 +6,6 @@ ghost use Rattle.tb_my.specs.Word.{is_of_task, my_word_named};
 #[derive(Clone, Copy, Debug, PartialEq, Eq)]
 pub enum MyWord {
     List,
-    Next,
-    Projects,
-    Tags,
     Boards,
     People,
     Export,
@@ -21,9 +18,6 @@ pub enum MyWord {
     Log,
     Add,
     Change,
-    Append,
-    Prepend,
-    Copy,
     Done,
     Delete,
     Reopen,
@@ -42,10 +36,7 @@ impl MyWord {
         ensures { result ≡ my_word_named name.now }
     {
         let word = match name {
-            "list" | "ls" => MyWord::List,
-            "next" => MyWord::Next,
-            "projects" => MyWord::Projects,
-            "tags" => MyWord::Tags,
+            "list" => MyWord::List,
             "boards" => MyWord::Boards,
             "people" => MyWord::People,
             "export" => MyWord::Export,
@@ -57,10 +48,7 @@ impl MyWord {
             "show" => MyWord::Show,
             "log" => MyWord::Log,
             "add" => MyWord::Add,
-            "change" | "modify" => MyWord::Change,
-            "append" => MyWord::Append,
-            "prepend" => MyWord::Prepend,
-            "copy" => MyWord::Copy,
+            "change" => MyWord::Change,
             "done" => MyWord::Done,
             "delete" => MyWord::Delete,
             "reopen" => MyWord::Reopen,
@@ -81,9 +69,6 @@ impl MyWord {
     {
         match self {
             MyWord::List
-            | MyWord::Next
-            | MyWord::Projects
-            | MyWord::Tags
             | MyWord::Boards
             | MyWord::People
             | MyWord::Export
@@ -96,9 +81,6 @@ impl MyWord {
             MyWord::Show
             | MyWord::Log
             | MyWord::Change
-            | MyWord::Append
-            | MyWord::Prepend
-            | MyWord::Copy
             | MyWord::Done
             | MyWord::Delete
             | MyWord::Reopen
