@@ -95,9 +95,9 @@ def expect(name, command, wanted):
 
 
 def readme():
-    """The README's file of boards: made, served with its page, and asked by its commands."""
+    """The README's file of boards: made, served with its page, asked by its commands, and read by the program once it isn't served."""
     init, serve = block_with("README.md", "--page")
-    asked = block_with("README.md", "taskboard send")
+    asked, taken = block_with("README.md", "taskboard send"), block_with("README.md", "taskboard import")
     run(init)
     file, words = re.fullmatch(r".* serve (\S+) --port 8080 (.*)", serve).groups()
     with Server(PROGRAM, PORT, file, words=words.split(), errors=subprocess.DEVNULL):
@@ -108,6 +108,10 @@ def readme():
         for command, text in zip(asked, wanted, strict=True):
             if shutil.which("curl") or not command.startswith("curl"):
                 expect("README.md", command.replace("curl ", "curl -s "), text)
+    for command, text in zip(taken, ('"new":3', "3 of 4 tasks", "boards 1 tasks 4 faults 0", "faults 0"), strict=True):
+        expect("README.md", command, text)
+    if len(os.listdir("copies")) != 1:
+        sys.exit(f"README.md: {taken[-1]}\nmakes no copy")
 
 
 def using():

@@ -111,6 +111,13 @@ def full_board(office):
     browser.run("[...document.querySelectorAll('#notices button')].at(-1).click()")
 
 
+def wait_until(browser, what, is_so):
+    end = time.monotonic() + 6 + browser.patience
+    while not is_so() and time.monotonic() < end:
+        time.sleep(0.1)
+    expect(what, True, is_so())
+
+
 def sweeps_once(office):
     """A full board always has more to make: the page asks it to, once, and goes on when nothing was added."""
     browser, relay, board = office.browser, office.relay, new_board("Filled")
@@ -120,13 +127,11 @@ def sweeps_once(office):
     expect("the board", 10_000, len(tasks(board)))
     office.begin(board)
     browser.wait(IS_TOLD, "Each day")
-    swept, news = ("POST", f"/boards/{board}/sweep"), ("GET", f"/boards/{board}/history/")
-    while relay.asked.count(swept) == 0:
-        time.sleep(0.1)
+    swept, news = ("POST", f"/boards/{board}/sweep"), f"/boards/{board}/history/"
+    wait_until(browser, "the page swept the board", lambda: swept in relay.asked)
     browser.wait(ALL_ANSWERED)
     looked = len(relay.asked)
-    while sum(it[0] == news[0] and it[1].startswith(news[1]) for it in relay.asked[looked:]) < 2:
-        time.sleep(0.1)
+    wait_until(browser, "the page looked twice at what is new", lambda: sum(path.startswith(news) for _, path in relay.asked[looked:]) >= 2)
     expect("sweeps asked for", 1, relay.asked.count(swept))
 
 

@@ -174,8 +174,8 @@ def named(office):
 
 
 def asked_at_least(office, path, times):
-    """Wait until the page has asked for a path that often, for 12 s at most."""
-    end = time.monotonic() + 12
+    """Waits until the page has asked for a path that often, which it does every 3 s."""
+    end = time.monotonic() + 3 * times + office.browser.patience
     while times_asked(office, path) < times and time.monotonic() < end:
         time.sleep(0.1)
     expect("asked for what is next, at least", times, min(times, times_asked(office, path)))
