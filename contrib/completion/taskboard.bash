@@ -61,7 +61,7 @@ _taskboard_of_send() {
 
 # The first word of `my`, or of `tb`.
 _taskboard_of_my() {
-    _taskboard_words "list boards people show log add change done delete reopen start stop note unnote needs free undo use import export todo setup" "$1"
+    _taskboard_words "list next projects tags boards people show log add change append prepend copy done delete reopen start stop note unnote needs free undo use import export todo setup help" "$1"
 }
 
 _taskboard_of_tb() {
@@ -75,7 +75,7 @@ _taskboard_of_tb() {
 # What stands behind the first word of `my`.
 _taskboard_behind_my() {
     case $1 in
-    list) _taskboard_words "mine overdue blocked waiting due:today due:week done:week --sort --json" "$2" ;;
+    list | next | projects | tags) _taskboard_words "mine overdue blocked waiting recurring done due:today due:week done:week not: --sort --json" "$2" ;;
     --sort) _taskboard_words "urgency due project" "$2" ;;
     import)
         if [ "${2#-}" != "$2" ]; then

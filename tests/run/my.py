@@ -1,5 +1,7 @@
 """A day with `tb`: my.py PROGRAM PORT, in a folder that is its own, against a server on the port over a file whose first person is ann, by
 the key ann-key-1. What a board holds afterwards is read by `send`."""
+import calendar
+import collections
 import datetime
 import json
 import os
@@ -8,7 +10,6 @@ import shutil
 import stat
 import subprocess
 import sys
-import time
 import unicodedata
 import uuid
 
@@ -60,6 +61,15 @@ def expect_task(place, **members):
     differs = {name: task.get(name) for name, value in members.items() if task.get(name) != value}
     if differs:
         fail(f"task {place} has {differs}, and not {members}")
+
+
+def expect_added(words, description, board=1, **more):
+    """A task is added, and told with the number that it has on the board."""
+    before = {task["uuid"] for task in tasks(board)}
+    ran = tb("add", *words, **more)
+    new = [place for place, task in enumerate(tasks(board), 1) if task["uuid"] not in before and "parent" not in task]
+    if (ran.returncode, ran.stdout, ran.stderr) != (0, f"Added {new[0] if len(new) == 1 else new}: {description}\n", ""):
+        fail(f"add {words}: {ran}, and the new tasks are {new}")
 
 
 def write(name, text, mode=0o600):
@@ -114,7 +124,10 @@ def settings():
         expect(words, 0, boards(), **unboarded)
     expect(["undo"], 1, told="There is nothing to take back.", **unboarded)
     write("config", config())
-    expect(["add", "Call", "bank"], 0, "Added: Call bank\n")
+    expect_added(["Call", "bank"], "Call bank")
+    for board in ("0", "00", "01", "4294967296"):
+        expect(["--board", board, "list"], 1, told=f'"{board}" is no board of yours.')
+        expect(["list"], 1, told=f'"{board}" is no board of yours.', TASKBOARD_BOARD=board)
     path = write("another", "ann-key-1\n")
     expect(["start", "1"], 0, "Started: Call bank\n", TASKBOARD_KEY_FILE=path)
     expect(["stop", "1"], 0, "Stopped: Call bank\n", TASKBOARD_KEY_FILE="~/.config/taskboard/another")
@@ -126,9 +139,9 @@ def settings():
 
 def a_day():
     """Each word, and what the board holds then."""
-    expect(["add", "Buy", "milk", "due:tomorrow", "pri:H", "+Home", "@shop", "@early", "for:bob"], 0, "Added: Buy milk\n")
+    expect_added(["Buy", "milk", "due:tomorrow", "pri:H", "+Home", "@shop", "@early", "for:bob"], "Buy milk")
     expect_task(2, description="Buy milk", due=at(1), priority="H", project="Home", tags=["early", "shop"], assignee="bob", status="pending")
-    expect(["add", "Paint the door", "project:", "wait:2099-12-01", "scheduled:2w", "until:+3d", "rec:weekly", "due:3d"], 0, "Added: Paint the door\n")
+    expect_added(["Paint the door", "project:", "wait:2099-12-01", "scheduled:2w", "until:+3d", "rec:weekly", "due:3d"], "Paint the door")
     expect_task(3, description="Paint the door", status="recurring", recur="weekly", due=at(3), until=at(3), wait="20991201T000000Z", scheduled=at(14))
     expect(["change", "2", "due:2w", "@phone", "-@shop", "-@early", "for:", "pri:", "Buy", "oat milk"], 0, "Changed: Buy milk\n")
     expect_task(2, description="Buy oat milk", due=at(14), priority=None, project="Home", tags=["phone"], assignee=None)
@@ -140,6 +153,10 @@ def a_day():
     expect(["unnote", "1", "call after", "six"], 0, "Note removed: Call bank\n")
     expect(["unnote", "1", "call", "after", "six"], 1, told="That note or dependency isn't there")
     expect(["needs", "1", "2"], 0, "Call bank needs Buy oat milk\n")
+    entries = send("history", "1")
+    expect(["needs", "1", "2"], 1, told="Call bank needs Buy oat milk already, so nothing is left to do.")
+    if send("history", "1") != entries:
+        fail("a link that is there was asked for")
     expect(["needs", "2", "1"], 1, told="The tasks would wait for each other in a circle.")
     expect(["free", "1", "2"], 0, "Call bank no longer needs Buy oat milk\n")
     ids = [task["uuid"] for task in tasks()]
@@ -152,7 +169,7 @@ def a_day():
         fail(f"show 2: {shown}")
     expect(["boards"], 0, boards())
     expect(["people"], 0, "".join(f"{it['name']}  {it['role']}\n" for it in json.loads(send("people", "1"))["people"]))
-    expect(["add", "a\x1b[31m\x07b"], 0, "Added: a [31m b\n")
+    expect_added(["a\x1b[31m\x07b"], "a [31m b")
 
 
 def refused():
@@ -163,8 +180,19 @@ def refused():
         expect(words, 2, told=f'"{words[0]}" is none of my words.')
     for words in (["boards", "x"], ["people", "1"], ["export", "x"], ["todo", "x"], ["undo", "x"], ["setup", "x"]):
         expect(words, 2, told="This word takes nothing after it.")
-    for words in (["list", "--sort"], ["list", "--sort", "age"], ["list", "--jsn"]):
+    for words in (["list", "--sort"], ["list", "--sort", "age"]):
         expect(words, 2, told="After `list` belong")
+    for words in (["list", "--jsn"], ["add", "--jsn", "x"], ["change", "1", "--jsn"], ["done", "--jsn"], ["done", "1", "--jsn"], ["note", "1", "--jsn"], ["show", "--jsn"], ["copy", "--jsn"]):
+        expect(words, 2, told='"--jsn" is no option of this word.')
+    for filter in ("foo:bar", "-x", "Due:today", "status:x", "not:done:today", "not:status:waiting"):
+        expect(["list", filter], 2, told=f'"{filter.removeprefix("not:")}" is no filter.')
+    for word in ("Due:friday", "sch:friday", "estimate:2h", "mailto:a@b"):
+        expect(["add", "x", word], 2, told=f'"{word}" is no attribute.')
+        expect(["change", "1", word], 2, told=f'"{word}" is no attribute.')
+    for step in ("hourly", "0d", "x"):
+        expect(["add", "x", "due:today", f"rec:{step}"], 2, told=f'"{step}" is no step of recurrence.')
+    for words in (["add", "x", "depends:99999"], ["change", "1", "depends:99999"]):
+        expect(words, 1, told="There is no task 99999 on board 1")
     expect(["list", "due:frday"], 2, told='"frday" is no day.')
     expect(["use"], 2, told="One board belongs after `use`")
     expect(["import"], 2, told="One file belongs after `import`")
@@ -182,7 +210,7 @@ def refused():
         expect(words, 2, told="One task belongs after `show`")
     for place in ("0", "01", str(count + 1), "4294967296", "-1", "x", str(uuid.uuid4())):
         expect(["done", "1", place], 1, told=f"There is no task {place} on board 1 ({count} tasks).")
-    for day in ("frday", "Friday", "0d", "+d", "10000d", "2026-02-30", "2026-1-1", "1m", "++3d", "-3d", "T14:00", "todayT24:00", "todayT1:00", "todayT12:60", "todayT12:00:00", "2026-12-01t14:00"):
+    for day in ("frday", "0d", "+d", "10000d", "2026-02-30", "2026-1-1", "1m", "++3d", "-3d", "T14:00", "todayT24:00", "todayT1:00", "todayT12:60", "todayT12:00:00", "13-01", "31.02.", "24.12", "in", "next", "fri25:00"):
         expect(["add", "x", f"due:{day}"], 2, told=f'"{day}" is no day.')
     for priority in ("h", "A", "HM"):
         expect(["change", "1", f"pri:{priority}"], 2, told=f'"{priority}" is no priority.')
@@ -190,12 +218,31 @@ def refused():
         fail("wrong words changed the board")
 
 
+def later(months):
+    """How many days it is to the same day so many months later, or to the last of that month."""
+    today = datetime.datetime.now(datetime.timezone.utc).date()
+    year, month = divmod(today.year * 12 + today.month - 1 + months, 12)
+    return (datetime.date(year, month + 1, min(today.day, calendar.monthrange(year, month + 1)[1])) - today).days
+
+
+def next_date(month, day):
+    """How many days it is to the next such date."""
+    today = datetime.datetime.now(datetime.timezone.utc).date()
+    return min((it - today).days for it in (datetime.date(today.year, month, day), datetime.date(today.year + 1, month, day)) if it >= today)
+
+
 def days(draw):
     """Days by their names are what Python's calendar says."""
-    names = {"today": 0, "tomorrow": 1} | {f"{name}": ahead(number) for number, name in enumerate(WEEKDAYS)} | {name[:3]: ahead(number) for number, name in enumerate(WEEKDAYS)}
+    today = datetime.datetime.now(datetime.timezone.utc).date()
+    names = {"today": 0, "tomorrow": 1, "yesterday": -1, "eod": 0, "TODAY": 0, "eow": 6 - today.weekday(), "next week": 7, "next month": later(1)}
+    names["eom"] = calendar.monthrange(today.year, today.month)[1] - today.day
+    names |= {form: ahead(number) for number, name in enumerate(WEEKDAYS) for form in (name, name[:3], name.capitalize(), name[:3].upper())}
     for _ in range(6):
         count = draw.randint(1, 600)
-        names |= {f"{count}d": count, f"+{count}d": count, f"{count // 7 + 1}w": (count // 7 + 1) * 7}
+        weeks = count // 7 + 1
+        month, day = draw.randint(1, 12), draw.randint(1, 28)
+        names |= {f"{count}d": count, f"+{count}d": count, f"in {count} days": count, f"{count}days": count, f"{weeks}w": weeks * 7, f"{weeks} weeks": weeks * 7}
+        names |= {f"{count % 40 + 1}mo": later(count % 40 + 1), f"{month:02}-{day:02}": next_date(month, day), f"{day:02}.{month:02}.": next_date(month, day)}
     tb("add", "a day")
     place = len(tasks())
     for name, count in names.items():
@@ -207,6 +254,87 @@ def days(draw):
             fail(f"due:{name} is {tasks()[place - 1]['due']}, and not {both}")
     expect(["change", str(place), "due:9999-12-31"], 0, "Changed: a day\n")
     expect_task(place, due="99991231T000000Z")
+    for name, count in (("14:00", 0), ("fri14:00", ahead(4)), ("FridayT14:00", ahead(4)), ("sat14:00", ahead(5)), ("tomorrow14:00", 1)):
+        expect(["change", str(place), f"due:{name}"], 0, "Changed: a day\n", TZ="UTC")
+        expect_task(place, due=at(count).replace("T000000Z", "T140000Z"))
+    before = datetime.datetime.now(datetime.timezone.utc).strftime("%Y%m%dT%H%M%SZ")
+    tb("change", str(place), "due:now")
+    if not before <= tasks()[place - 1]["due"] <= datetime.datetime.now(datetime.timezone.utc).strftime("%Y%m%dT%H%M%SZ"):
+        fail(f"now is {tasks()[place - 1]['due']}, at {before}")
+
+
+def several():
+    """Words of several tasks change what they name, and no text."""
+    send("board", "Several")
+    board = json.loads(send("me"))["boards"][-1]["board"]
+    here = {"TASKBOARD_BOARD": "Several"}
+    for name in "abcdef":
+        expect_added([name], name, board, **here)
+    expect(["change", "1", "3", "5", "pri:H"], 0, "Changed: a\nChanged: c\nChanged: e\n", **here)
+    expect(["change", "2-3,6", "+Home", "@x"], 0, "Changed: b\nChanged: c\nChanged: f\n", **here)
+    told = [(task["description"], task.get("priority"), task.get("project")) for task in tasks(board)]
+    if told != [("a", "H", None), ("b", None, "Home"), ("c", "H", "Home"), ("d", None, None), ("e", "H", None), ("f", None, "Home")]:
+        fail(f"several tasks are {told}")
+    before = send("export", str(board))
+    for words in (["change", "3", "4", "eggs"], ["change", "1,2", "eggs"], ["change", "1-2", "3", "--", "eggs"]):
+        expect(words, 2, told="A new description is for one task.", **here)
+    expect(["change", "3", "400", "eggs"], 1, told="There is no task 400 on board ", **here)
+    for words in (["done", "2-9"], ["done", "3-2"], ["done", "1,9"], ["done", "1,"], ["change", "9", "x"]):
+        expect(words, 1, told=f"There is no task {words[1]} on board ", **here)
+    for word in ("add", "change", "append", "copy", "note", "done", "list", "show", "log", "undo", "boards"):
+        for words in ([word, "--help"], [word, "3", "--help"], ["help", word]):
+            ran = tb(*words, **here)
+            if ran.returncode or ran.stderr or not ran.stdout.startswith(f"tb {word}"):
+                fail(f"{words}: {ran}")
+    if send("export", str(board)) != before:
+        fail("help or wrong words changed the board")
+    expect(["change", "3", "--", "4 eggs", "due:fri", "--help"], 0, "Changed: c\n", **here)
+    expect(["append", "3", "and", "milk", "pri:L"], 0, "Changed: 4 eggs due:fri --help\n", **here)
+    expect(["prepend", "3", "--", "2", "x"], 0, "Changed: 4 eggs due:fri --help and milk\n", **here)
+    if (tasks(board)[2]["description"], tasks(board)[2]["priority"]) != ("2 x 4 eggs due:fri --help and milk", "L"):
+        fail(f"the texts are {tasks(board)[2]}")
+    expect(["note", "1-2", "seen"], 0, "Noted: a\nNoted: b\n", **here)
+    expect(["note", "1", "--", "2", "eggs"], 0, "Noted: a\n", **here)
+    if [[note["description"] for note in task.get("annotations", [])] for task in tasks(board)[:2]] != [["seen", "2 eggs"], ["seen"]]:
+        fail(f"the notes are {tasks(board)[:2]}")
+    expect(["copy", "3", "due:2099-01-01", "@y"], 0, "Added 7: 2 x 4 eggs due:fri --help and milk\n", **here)
+    copied = tasks(board)[6]
+    if (copied["due"], copied["tags"], copied["project"], copied["priority"]) != ("20990101T000000Z", ["x", "y"], "Home", "L"):
+        fail(f"the copy is {copied}")
+    expect(["start", "4-5"], 0, "Started: d\nStarted: e\n", **here)
+    expect(["stop", "4,5"], 0, "Stopped: d\nStopped: e\n", **here)
+    expect(["done", "4", "5,6"], 0, "Done: d\nDone: e\nDone: f\n", **here)
+    expect(["reopen", "4-6"], 0, "Open again: d\nOpen again: e\nOpen again: f\n", **here)
+    expect(["delete", "4-6"], 0, "Deleted: d\nDeleted: e\nDeleted: f\n", **here)
+
+
+def spoken():
+    """The words of `add` that others use, and what stays a text."""
+    expect_added(["(B)", "Words", "priority:H", "project:Home", "recur:weekly", "due:2099-01-01", "tags:a,b", "@c", "assignee:me"], "Words")
+    expect_task(next(place for place, task in enumerate(tasks(), 1) if task["description"] == "Words" and "parent" not in task), priority="H", project="Home", recur="weekly", tags=["a", "b", "c"], assignee="ann")
+    expect_added(["(A)", "Marked"], "Marked")
+    expect_task(len(tasks()), priority="H")
+    expect_added(["(D)", "plain", "(A)"], "(D) plain (A)")
+    expect_added(["Call the bank +Bank for:me pri:L"], "Call the bank")
+    expect_task(len(tasks()), description="Call the bank", project="Bank", assignee="ann", priority="L")
+    expect_added(["see", "https://example.org/x", "12:30", "Bob:", "--", "note:this", "+x", "--json", "(A)"], "see https://example.org/x 12:30 Bob: note:this +x --json (A)")
+    expect_task(len(tasks()), project=None)
+    expect_added(["needs", "some", "depends:1,2"], "needs some")
+    expect_task(len(tasks()), depends=sorted(task["uuid"] for task in tasks()[:2]))
+    here = str(len(tasks()))
+    expect(["change", here, "depends:1,4"], 0, f"needs some needs {tasks()[3]['description']}\n")
+    expect(["change", here, "depends:1"], 1, told="Nothing is to be changed")
+    mine = tb("list", "mine", "--json", "--", "Call the bank")
+    if mine.returncode or [task["description"] for task in json.loads(mine.stdout)] != ["Call the bank"]:
+        fail(f"for:me isn't mine: {mine}")
+    if tb("list", "for:me", "Marked").stdout != f"0 of {len(tasks())} tasks\n":
+        fail("for:me finds another's")
+    for words, told in ((["add", "as", "JSON", "--json"], "uuid"), (["show", "1", "--json"], "description"), (["log", "--json"], "entries"), (["log", "1", "--json"], "entries"), (["boards", "--json"], "boards"), (["people", "--json"], "people")):
+        ran = tb(*words)
+        if ran.returncode or ran.stderr or told not in json.loads(ran.stdout):
+            fail(f"{words}: {ran}")
+    if json.loads(tb("show", "1", "--json").stdout) != json.loads(send("task", "1", "1")):
+        fail("show --json isn't the task")
 
 
 # ---- finding
@@ -224,6 +352,15 @@ def is_found(task, word, today, now, blocked):
         return task.get("project", "") == word[1:] or task.get("project", "").startswith(word[1:] + ".")
     if word.startswith("@"):
         return word[1:] in task.get("tags", [])
+    if word.startswith(("not:", "-")):
+        return not is_found(task, word.removeprefix("not:").removeprefix("-"), today, now, blocked)
+    if word.startswith("pri:"):
+        return task.get("priority", "") == word[4:]
+    if word.startswith("project:"):
+        return is_found(task, "+" + word[8:], today, now, blocked) if word[8:] else "project" not in task
+    if word.startswith(("due:before:", "due:after:")):
+        named = today + {"today": 0, "tomorrow": 1, "3d": 3}[word.split(":")[2]]
+        return due is not None and (day_number(due) < named if "before" in word else day_number(due) > named)
     if word == "mine" or word.startswith("for:"):
         return task.get("assignee", "") == ("ann" if word == "mine" else word[4:])
     if word.startswith("due:"):
@@ -239,6 +376,12 @@ def is_found(task, word, today, now, blocked):
     if word == "waiting":
         return task["status"] == "waiting"
     return any(lowered(word) in lowered(text) for text in [task["description"], *(note["description"] for note in task.get("annotations", []))])
+
+
+STANDINGS = {
+    "done": ("completed",), "recurring": ("recurring",), "all": ("pending", "waiting", "recurring", "completed", "deleted"), "status:pending": ("pending",),
+    "status:waiting": ("waiting",), "status:done": ("completed",), "status:completed": ("completed",), "status:deleted": ("deleted",),
+}
 
 
 def finding(draw):
@@ -279,15 +422,17 @@ def finding(draw):
     listed = [int(line.split()[0]) for line in send("list", str(board)).splitlines()[1:-1]]
     here = {"TASKBOARD_BOARD": str(board)}
     filters = "+Home +Work @shop @phone @next for:bob for:ann for: mine due:today due:tomorrow due:week overdue blocked waiting milk BANK nothing note".split()
+    filters += "pri:H pri: project:Home project: -@shop -+Home not:mine not:milk not:due:week not:pri:M due:before:today due:before:3d due:after:tomorrow".split()
     count = 0
     for number in range(60):
-        asked = draw.sample(filters, draw.randint(0, 2)) + draw.choice([[]] * 3 + [["done:week"], ["done:today"]])
+        standing = draw.choice([None] * 4 + ["done:week", "done:today", *STANDINGS])
+        asked = draw.sample(filters, draw.randint(0, 2)) + ([standing] if standing else [])
         sort = draw.choice([None, "urgency", "due", "project"])
         ran = tb("list", *asked, *(["--sort", sort] if sort else []), "--json", **here)
         told = json.loads(ran.stdout)
         today = int(now.timestamp()) // 86400
-        status = ("completed",) if any(word.startswith("done:") for word in asked) else ("pending", "waiting")
-        wanted = {task["uuid"] for task in exported if task["status"] in status and all(is_found(task, word, today, now.strftime("%Y%m%dT%H%M%SZ"), blocked) for word in asked)}
+        status = STANDINGS.get(standing, ("completed",) if standing else ("pending", "waiting"))
+        wanted = {task["uuid"] for task in exported if task["status"] in status and all(is_found(task, word, today, now.strftime("%Y%m%dT%H%M%SZ"), blocked) for word in asked if word not in STANDINGS)}
         if {task["uuid"] for task in told} != wanted or len(told) != len(wanted):
             fail(f"{asked} finds {len(told)} tasks, and not {len(wanted)}")
         first = {"due": lambda task: task.get("due", "~"), "project": lambda task: (0, task["project"].encode()) if "project" in task else (1, b"")}.get(sort, lambda task: 0)
@@ -307,6 +452,16 @@ def finding(draw):
         count += len(told)
     if count < 100:
         fail(f"only {count} tasks were found")
+    open_ones = [task for task in exported if task["status"] in ("pending", "waiting")]
+    for word, names in (("projects", [[task["project"]] if "project" in task else [] for task in open_ones]), ("tags", [task.get("tags", []) for task in open_ones])):
+        counts = collections.Counter(name for some in names for name in some)
+        expect([word], 0, "".join(f"{counts[name]}  {name}\n" for name in sorted(counts, key=str.encode)), **here)
+    expect(["tags", "done", "+Home"], 0, tb("tags", "status:completed", "project:Home", **here).stdout, **here)
+    ready = {places[task["uuid"]] for task in open_ones if task["status"] == "pending" and task["uuid"] not in blocked}
+    for words in (["next"], ["list", "not:waiting", "not:blocked"], ["ls", "not:blocked", "status:pending"]):
+        listed = [int(line.split()[0]) for line in tb(*words, **here).stdout.splitlines()[:-1]]
+        if set(listed) != ready:
+            fail(f"{words} lists {listed}, and not {ready}")
 
 
 VERBS = {
@@ -349,8 +504,9 @@ def lists():
     send("board", "Lists")
     here = {"TASKBOARD_BOARD": "Lists"}
     expect(["list"], 0, "0 of 0 tasks\n", **here)
+    board = json.loads(send("me"))["boards"][-1]["board"]
     for words in (["Old", "due:2026-01-02"], ["Soon", "due:tomorrow", "+Home", "pri:H", "@x"], ["漢字 " * 40, "for:bob"], ["At noon", "due:todayT12:00"]):
-        expect(["add", *words], 0, f"Added: {words[0]}\n", **here)
+        expect_added(words, words[0], board, **here)
     expect(["start", "2"], 0, "Started: Soon\n", **here)
     plain = tb("list", "--sort", "due", **here).stdout
     wanted = f"1      2026-01-02              Old\n4      today 12:00             At noon\n2  H*  tomorrow     Home       Soon @x\n3                         bob  {'漢字 ' * 40}\n4 of 4 tasks\n"
@@ -392,31 +548,47 @@ def zones():
     for zone, moment in (("Europe/Berlin", "20260701T120000Z"), ("America/New_York", "20260701T180000Z"), ("UTC", "20260701T140000Z"), ("CET-1CEST,M3.5.0,M10.5.0/3", "20260701T120000Z"), ("Asia/Kolkata", "20260701T083000Z")):
         if "," not in zone and "/" in zone and not os.path.exists(f"/usr/share/zoneinfo/{zone}"):
             continue
-        expect(["add", "in", zone, "due:2026-07-01T14:00", "wait:2099-12-01"], 0, f"Added: in {zone}\n", TZ=zone)
+        expect_added(["in", zone, "due:2026-07-01T14:00", "wait:2099-12-01"], f"in {zone}", TZ=zone)
         expect_task(len(tasks()), due=moment, wait="20991201T000000Z")
         shown = tb("show", str(len(tasks())), TZ=zone).stdout
         if "2026-07-01 14:00" not in shown or "waits for  2099-12-01\n" not in shown:
             fail(f"in {zone}: {shown}")
     for zone, hours in (("XXX-14", 14), ("XXX12", -12)):
         there = (datetime.datetime.now(datetime.timezone.utc) + datetime.timedelta(hours=hours)).strftime("%Y%m%dT000000Z")
-        expect(["add", "today there", "due:today"], 0, "Added: today there\n", TZ=zone)
+        expect_added(["today there", "due:today"], "today there", TZ=zone)
         expect_task(len(tasks()), due=there)
 
 
 def undo():
-    """What was done last is taken back, once."""
-    expect(["add", "One"], 0, "Added: One\n")
-    expect(["add", "Two"], 0, "Added: Two\n")
+    """Commands are taken back, the last one first, and what can't be is said."""
+    expect_added(["One"], "One")
+    expect_added(["Two"], "Two")
     one, two = str(len(tasks()) - 1), str(len(tasks()))
     for words, told, status in ((["done", one, two], "Taken back: Done: One\nTaken back: Done: Two\n", "pending"), (["delete", one], "Taken back: Deleted: One\n", "pending"), (["start", one], "Taken back: Started: One\n", "pending")):
         tb(*words)
-        expect(["change", one, "pri:L"], 0 if words[0] == "start" else 1, "Changed: One\n" if words[0] == "start" else "", "" if words[0] == "start" else "The task's status")
         expect(["undo"], 0, told)
         expect_task(int(one), status=status, start=None)
-        expect(["undo"], 1, told="There is nothing to take back.")
-    tb("note", one, "a", "note")
-    expect(["undo"], 0, "Taken back: Noted: One\n")
-    expect_task(int(one), annotations=None)
+    tb("change", one, "due:2099-01-01", "pri:L", "+Old", "@a", "@b", "for:bob", "wait:2099-01-01")
+    before = tasks()[int(one) - 1]
+    for words in (["Another", "text", "due:", "pri:H", "project:", "@c", "-@a", "for:"], ["-@a", "-@b"], ["scheduled:fri", "until:fri", "wait:"], ["--", "--help"]):
+        expect(["change", one, *words], 0, "Changed: One\n")
+        expect(["undo"], 0, "Taken back: Changed: One\n")
+        after = tasks()[int(one) - 1]
+        if after | {"modified": 0} != before | {"modified": 0}:
+            fail(f"change {words} isn't taken back: {after}, and not {before}")
+    tb("append", one, two, "more")
+    expect(["undo"], 0, "Taken back: Changed: One\nTaken back: Changed: Two\n")
+    expect_task(int(two), description="Two")
+    for closing, verb, status in (("done", "Done", "completed"), ("delete", "Deleted", "deleted")):
+        tb(closing, one)
+        tb("reopen", one)
+        expect(["undo"], 0, "Taken back: Open again: One\n")
+        expect_task(int(one), status=status)
+        expect(["undo"], 0, f"Taken back: {verb}: One\n")
+        expect_task(int(one), status="waiting")
+    expect_added(["Three"], "Three")
+    expect(["undo"], 0, "Taken back: Added: Three\n")
+    expect_task(len(tasks()), description="Three", status="deleted")
     for text in ("one\ttab", "two\nlines\r\n", "\x01A\x1b[31m\x1f", "c:\\tab\\n é漢 \x7f\x85"):
         tb("note", one, text)
         if [note["description"] for note in tasks()[int(one) - 1]["annotations"]] != [text]:
@@ -430,11 +602,24 @@ def undo():
             fail(f"{text!r} isn't noted again")
         tb("unnote", one, text)
     tb("needs", one, two)
+    tb("needs", one, two)
     expect(["undo"], 0, "Taken back: One needs Two\n")
     expect_task(int(one), depends=None)
     tb("done", one)
     expect(["undo"], 1, told="There is nothing to take back.", TASKBOARD_SERVER=f"localhost:{PORT}")
     expect(["undo"], 0, "Taken back: Done: One\n")
+    for number in range(60):
+        tb("change", one, "--", f"text {number}")
+    for number in range(59, 9, -1):
+        expect(["undo"], 0, f"Taken back: Changed: {f'text {number - 1}'}\n")
+    expect_task(int(one), description="text 9")
+    expect(["undo"], 1, told="There is nothing to take back.")
+    tb("change", one, "--", "One")
+    ran = subprocess.run([PROGRAM, "my", "import", "-"], input="Brought +Home", capture_output=True, text=True, env=BARE, timeout=60)
+    if ran.returncode:
+        fail(f"import -: {ran}")
+    expect(["undo"], 1, told="Can't be taken back: Imported: 1 new, 0 known before")
+    expect(["undo"], 0, "Taken back: Changed: text 9\n")
 
 
 def imports(draw):
@@ -497,7 +682,7 @@ def setup():
 
 def same_task():
     """A task's uuid is made of the identifier of the call that adds it."""
-    expect(["add", "by", "its", "call"], 0, "Added: by its call\n")
+    expect_added(["by", "its", "call"], "by its call")
     if uuid.UUID(tasks()[-1]["uuid"]).version != 5:
         fail(f"{tasks()[-1]} has no uuid of its call")
 
@@ -518,19 +703,25 @@ def others(draw):
     first = len(tasks())
     for number in range(8):
         words = ["".join(draw.choice("abcxyz\"'\\{}[]éß漢") for _ in range(draw.randint(1, 9))) for _ in range(draw.randint(1, 4))]
-        expect(["add", *words], 0, f"Added: {' '.join(words)}\n", **bob)
+        expect_added(["--", *words], " ".join(words), **bob)
         expect_task(first + number + 1, description=" ".join(words))
     send("role", "1", "bob", "reader")
     expect(["done", "1"], 1, told="Your role doesn't allow it.", **bob)
 
 
-def unanswered():
-    """Where nobody answers it ends after its time, and the fault is told as of `send`."""
-    began = time.time()
-    ran = subprocess.Popen([PROGRAM, "my"], env=BARE | {"TASKBOARD_SERVER": "127.0.0.1:1"}, stdout=subprocess.PIPE, stderr=subprocess.PIPE, text=True)
-    out, told = ran.communicate(timeout=90)
-    if ran.returncode != 1 or out or not told.startswith("taskboard: NoAnswer\n") or time.time() - began > 75:
-        fail(f"nobody answers: {ran.returncode}, {out!r}, {told!r}, {time.time() - began:.0f} s")
+def silent():
+    """Where nobody answers, a view ends at once, and a call after its time; both say where."""
+    away = {"TASKBOARD_SERVER": "127.0.0.1:1"}
+    for words in (["list"], ["--for", "3600", "boards"], ["done", "1"]):
+        ran = tb(*words, **away)
+        if (ran.returncode, ran.stdout) != (1, "") or not ran.stderr.startswith("127.0.0.1:1 doesn't answer.\ntaskboard: NoAnswer\n"):
+            fail(f"{words} without a server: {ran}")
+    for words in (["--for", "1", "add", "x"], ["--board", "1", "--for", "1", "add", "x"], ["--for", "1", "--board", "1", "add", "x"]):
+        ran = tb(*words, **away)
+        if (ran.returncode, ran.stdout) != (1, "") or not ran.stderr.startswith("127.0.0.1:1 doesn't answer; trying for 1 s.\ntaskboard: NoAnswer\n"):
+            fail(f"{words} without a server: {ran}")
+    for seconds in ("0", "x", "86401"):
+        expect(["--for", seconds, "list"], 2, told=f'"{seconds}" is no number of seconds')
 
 
 def main():
@@ -539,6 +730,8 @@ def main():
     a_day()
     refused()
     days(draw)
+    several()
+    spoken()
     others(draw)
     log()
     same_task()
@@ -550,8 +743,7 @@ def main():
     imports(draw)
     setup()
     homeless()
-    if os.environ.get("WAITS"):
-        unanswered()
+    silent()
     if wrong:
         sys.exit(f"{len(wrong)} wrong")
     print("a day with tb is as it should be")

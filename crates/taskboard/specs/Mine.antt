@@ -18,14 +18,14 @@ use Rattle.tb_mine.specs.declared.context.Context.{Context}
 use Rattle.tb_my.specs.Bringing.{import_of}
 use Rattle.tb_my.specs.Days.{Text}
 use Rattle.tb_my.specs.Importing.{is_json, without_mark}
-use Rattle.tb_my.specs.Options.{board_given, words_after_board}
+use Rattle.tb_my.specs.Options.{board_given, help_asked, words_after_options}
 use Rattle.tb_my.specs.Undo.{undone_in}
 use Rattle.tb_my.specs.declared.bringing.ImportMode.{ImportMode}
 use Rattle.tb_my.specs.declared.bringing.ImportMode.TheVariants as mode
 use Rattle.tb_my.specs.declared.settings.Asker.{Asker}
 use Rattle.tb_orders.specs.Lists.{IsCut}
 use Rattle.tb_orders.specs.declared.ending.Ending.{Ending}
-use Rattle.tb_orders.specs.declared.ending.Ending.TheVariants.{Refused}
+use Rattle.tb_orders.specs.declared.ending.Ending.TheVariants.{Accepted, Refused}
 use Rattle.tb_sending.specs.declared.server_line.ServerLine.{ServerLine}
 
 -- ---- which words they are
@@ -48,7 +48,7 @@ or_given (Some board) given = Some board
 or_given None given = given
 
 abbrev pub named_board : List Text → Option Text
-named_board all = or_given (argument_of (words_after_board all) (codes "use")) (board_given all)
+named_board all = or_given (argument_of (words_after_options all) (codes "use")) (board_given all)
 
 abbrev pub if_check : ImportMode → Text → Option Text
 if_check mode.Check path = Some path
@@ -201,15 +201,18 @@ module _ {M : Type 0} (follows : List Event → ServerLine M → ServerLine M �
     pub is : ending ≡ ending_if is_accepted
     pub comes : ComesTo words input before after asker asked is_accepted
 
-  -- of `setup` nothing is said
-  abbrev pub IsMineBy : Bool → Option Text → List Text → Option Text → Output → Output
-      → Ending → Type 0
-  IsMineBy true checked all input before after ending = Unit {0}
-  IsMineBy false (Some path) all input before after ending =
+  -- of `setup` nothing is said; help is printed, and nothing else is done
+  abbrev pub IsMineBy : Option Text → Bool → Option Text → List Text → Option Text → Output
+      → Output → Ending → Type 0
+  IsMineBy (Some text) setup checked all input before after ending =
+      (ending ≡ Accepted) × Appends before after text
+  IsMineBy None true checked all input before after ending = Unit {0}
+  IsMineBy None false (Some path) all input before after ending =
       IsChecked path input before after ending
-  IsMineBy false None all input before after ending =
-      IsAsked (named_board all) (words_after_board all) input before after ending
+  IsMineBy None false None all input before after ending =
+      IsAsked (named_board all) (words_after_options all) input before after ending
 
   abbrev pub IsMine : List Text → Option Text → Output → Output → Ending → Type 0
-  IsMine all = IsMineBy (is_alone (words_after_board all) (codes "setup"))
-      (checked_path (words_after_board all)) all
+  IsMine all = IsMineBy (help_asked (words_after_options all))
+      (is_alone (words_after_options all) (codes "setup"))
+      (checked_path (words_after_options all)) all

@@ -17,24 +17,25 @@ use tb_client::Line;
 use tb_command_line::{MyOrder, SendOrder};
 use tb_mine::{Answer, Asks, Context, ask_on_board, ask_words, wrong};
 use tb_my::{
-    Asker, ImportMode, MyFault, Sent, board_given, import_of, needed_board, words_after_board,
+    Asker, ImportMode, MyFault, Sent, board_given, help_asked, import_of, looks, needed_board,
+    seconds_given, words_after_options,
 };
 use tb_orders::{Ending, MachineChance};
-use tb_program::{Fault, machine_moment};
-use tb_sending::{MachineDial, ServerLine, name_call, new_id, send_order};
+use tb_program::{Fault, machine_moment, print_text};
+use tb_sending::{Dial, MachineDial, ServerLine, name_call, new_id, send_order};
 use tb_task::TaskId;
 use tb_values::{Duplicate, Items, Text};
 
-/// How long a call is sent again, in seconds.
-const SECONDS: u32 = 60;
-
-/// Whom to ask, under which key if not that which `send` reads, and what takes back the calls that were accepted.
+/// Whom to ask, for how long, under which key if not that which `send` reads, and what takes back the calls that were accepted, beside
+/// those of commands before.
 #[derive(Drop)]
 pub(crate) struct Caller<'a> {
     rt: &'a HostRuntime,
     pub(crate) asker: Asker,
     key: Option<Key>,
+    seconds: u32,
     kept: Text,
+    before: Text,
 }
 
 impl Asks for Caller<'_> {
@@ -52,7 +53,7 @@ impl Asks for Caller<'_> {
             member: self.asker.name.duplicate()?,
             key: twin(&self.key)?,
             id: call,
-            seconds: SECONDS,
+            seconds: self.seconds,
             words,
         };
         let mut chance = MachineChance::new(self.rt);
@@ -69,7 +70,7 @@ impl Asks for Caller<'_> {
     }
 
     fn keep(&mut self, sent: &Sent) -> Result<(), Fault> {
-        keep_undo(self.rt, &self.asker, sent, &mut self.kept)
+        keep_undo(self.rt, &self.asker, sent, &mut self.kept, &mut self.before)
     }
 }
 
@@ -85,17 +86,24 @@ pub(crate) fn ask_mine<R: Read + Drop, W: Write>(
         order.now.words (R.remaining reader) (W.contents writer.old) (W.contents writer.new)) }
     ensures fault { IfErr result (λ fault. is_of_mine fault ≡ true) }
 {
-    let words = words_after_board(order.words.as_slice());
+    let words = words_after_options(order.words.as_slice());
+    if let Some(text) = help_asked(words) {
+        print_text(writer, text)?;
+        return Ok(Ending::Accepted);
+    }
     if is_alone(words, "setup") {
         return set_up(rt, reader, writer);
     }
     if let Some(path) = checked_path(words) {
         return check_file(rt, path.as_str(), reader, writer);
     }
-    let mut caller = match read_caller(rt, named_board(order.words.as_slice())) {
+    let mut caller = match read_caller(rt, order.words.as_slice()) {
         Ok(caller) => caller,
         Err(fault) => return Err(unfit(rt, &fault)),
     };
+    if is_silent(rt, &caller, words) {
+        return Err(Fault::NoAnswer);
+    }
     let is_accepted = ask_as(rt, &mut caller, words, reader, writer)?;
     Ok(ending_if(is_accepted))
 }
@@ -207,6 +215,33 @@ fn is_accepted(ending: Ending) -> bool
     }
 }
 
+/// Whether nobody answers where words begin with a view. That is told, and where they begin with a call, that it waits.
+fn is_silent(rt: &HostRuntime, caller: &Caller<'_>, words: &[Text]) -> bool {
+    let server = caller.asker.server.as_str();
+    let seconds = caller.seconds;
+    if MachineDial::new(rt).open(server, u64::from(seconds)) {
+        return false;
+    }
+    let errors = &mut rt.stderr();
+    if begins_with_call(words) {
+        let _ = writeln!(errors, "{server} doesn't answer; trying for {seconds} s.");
+        return false;
+    }
+    let _ = writeln!(errors, "{server} doesn't answer.");
+    true
+}
+
+fn begins_with_call(words: &[Text]) -> bool {
+    match words {
+        [word, ..] => match word.as_str() {
+            "add" => !looks(words),
+            "import" | "undo" => true,
+            _ => false,
+        },
+        [] => false,
+    }
+}
+
 /// Whether the words are this one alone.
 fn is_alone(words: &[Text], name: &str) -> bool
     ensures { result ≡ is_alone words.now name.now }
@@ -245,7 +280,7 @@ fn checked_path(words: &[Text]) -> Option<&Text>
 fn named_board(all: &[Text]) -> Option<&Text>
     ensures { option_copied result ≡ named_board all.now }
 {
-    let used = argument_of(words_after_board(all), "use");
+    let used = argument_of(words_after_options(all), "use");
     if used.is_some() {
         used
     } else {
@@ -253,17 +288,21 @@ fn named_board(all: &[Text]) -> Option<&Text>
     }
 }
 
-fn read_caller<'a>(rt: &'a HostRuntime, board: Option<&Text>) -> Result<Caller<'a>, MyFault>
-    ensures { IfOk result (λ caller. IfSome (option_copied board.entry)
+/// Whom to ask by the settings and the options in front of all words.
+fn read_caller<'a>(rt: &'a HostRuntime, all: &[Text]) -> Result<Caller<'a>, MyFault>
+    ensures { IfOk result (λ caller. IfSome (named_board all.now)
         (λ name. caller.asker.board ≡ Some name)) }
 {
-    let asker = read_asker(rt, board)?;
+    let seconds = seconds_given(all)?;
+    let asker = read_asker(rt, named_board(all))?;
     let key = key_of(rt, &asker)?;
     Ok(Caller {
         rt,
         asker,
         key,
+        seconds,
         kept: Text::new(rt.alloc()),
+        before: Text::new(rt.alloc()),
     })
 }
 

@@ -16,8 +16,9 @@ use tb_client::Line;
 use tb_command_line::ImportKind;
 use tb_mine::{find_board, import_parts, number_of, take_back};
 use tb_my::{
-    Asker, ImportMode, MyFault, Sent, SettingName, asker_of, is_json, kept_sent, read_settings,
-    settings_text, undo_head, undone_in, with_board, without_mark,
+    Asker, ImportMode, MyFault, Sent, SettingName, asker_of, is_json, kept_before, kept_over,
+    kept_rest, kept_sent, lost_in, read_settings, settings_text, undo_head, undone_in, with_board,
+    without_mark,
 };
 use tb_orders::{Ending, parts_of};
 use tb_program::{Fault, print_line};
@@ -37,14 +38,16 @@ pub(crate) const UNREAD: &str = "That file can't be read, or isn't UTF-8.";
 
 const LONG_LINE: &str = "A task is longer than 1,048,576 bytes. Nothing was imported.";
 
-const WRITTEN: &str = "Written: ~/.config/taskboard/config. Try it: taskboard my boards";
+const WRITTEN: &str = "Written: ~/.config/taskboard/config. Try it: tb boards";
 
-/// Keeps what takes back a call that was accepted, behind what takes back those before it.
+/// Keeps what takes back a call that was accepted, behind what takes back those of the command before it, and in front of what was kept of
+/// commands before.
 pub(crate) fn keep_undo(
     rt: &HostRuntime,
     asker: &Asker,
     sent: &Sent,
     kept: &mut Text,
+    before: &mut Text,
 ) -> Result<(), Fault>
     ensures { IfErr result (λ fault. is_of_mine fault ≡ true) }
 {
@@ -52,14 +55,19 @@ pub(crate) fn keep_undo(
     if line.is_empty() {
         return Ok(());
     }
+    let Some(folder) = KeyFolder::at_home(rt) else {
+        return Ok(());
+    };
     if kept.is_empty() {
         *kept = undo_head(rt.alloc(), asker.server.as_str(), asker.name.as_str())?;
+        if let Some(text) = folder.private_text(UNDO) {
+            *before = kept_before(rt.alloc(), text.as_str())?;
+        }
     }
     kept.push_str(line.as_str())?;
-    if let Some(folder) = KeyFolder::at_home(rt) {
-        let _ = folder.make();
-        let _ = folder.put(UNDO, kept.as_str());
-    }
+    let all = kept_over(rt.alloc(), kept, before)?;
+    let _ = folder.make();
+    let _ = folder.put(UNDO, all.as_str());
     Ok(())
 }
 
@@ -81,20 +89,34 @@ pub(crate) fn undo<W: Write>(
     let Some(kept) = folder.private_text(UNDO) else {
         return Ok(refuse(rt, NOTHING));
     };
-    let asker = &caller.asker;
-    let all = undone_in(
-        rt.alloc(),
-        asker.server.as_str(),
-        asker.name.as_str(),
-        kept.as_str(),
-    )?;
-    if all.is_empty() {
+    let server = caller.asker.server.as_str();
+    let name = caller.asker.name.as_str();
+    let all = undone_in(rt.alloc(), server, name, kept.as_str())?;
+    let is_known = tell_lost(rt, server, name, kept.as_str())?;
+    if all.is_empty() && !is_known {
         return Ok(refuse(rt, NOTHING));
+    }
+    let rest = kept_rest(rt.alloc(), kept.as_str())?;
+    if all.is_empty() {
+        let _ = folder.put(UNDO, rest.as_str());
+        return Ok(false);
     }
     let errors = &mut rt.stderr();
     let is_accepted = take_back(rt.alloc(), caller, all.as_slice(), writer, errors)?;
-    let _ = folder.put(UNDO, "");
+    let _ = folder.put(UNDO, rest.as_str());
     Ok(is_accepted)
+}
+
+/// Tells what can't be taken back of the last command, and says whether there is something.
+fn tell_lost(rt: &HostRuntime, server: &str, name: &str, kept: &str) -> Result<bool, Fault>
+    ensures { IfErr result (λ fault. is_of_mine fault ≡ true) }
+{
+    let lost = lost_in(rt.alloc(), server, name, kept)?;
+    for told in lost.as_slice() {
+        let told = told.as_str();
+        let _ = writeln!(&mut rt.stderr(), "Can't be taken back: {told}");
+    }
+    Ok(!lost.is_empty())
 }
 
 /// Tells why nothing is done, which is a refusal.

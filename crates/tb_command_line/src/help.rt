@@ -139,20 +139,22 @@ The status is 0 where it was accepted, and 1 where it was refused or no answer c
 ";
 
 const MY: &str = "\
-taskboard my [--board B] [WORD ARGUMENTS..]
+taskboard my [--board B] [--for SECONDS] [WORD ARGUMENTS..]
 
 Asks a server in words for every day; contrib/install.sh installs it as tb. Without words, the list
-of the board. One look at the board serves all numbers of a command.
+of the board. One look at the board serves all numbers of a command. `tb WORD --help` says more.
 
     list FILTER..            the open tasks that pass each filter, with their numbers
+    next, projects, tags     the tasks that wait for nothing; the projects or tags of open tasks
     boards, people           your boards; who is on the board
     add WORDS                a task: Buy milk due:friday pri:H +Home @shop for:bob
-    change N WORDS           sets what is named, as add does; due: or for: alone removes it, @tag
+    change N.. WORDS         sets what is named, as add does; due: or for: alone removes it, @tag
                              adds a tag and -@tag takes one, other words are the description
+    append N.. WORDS, prepend N.. WORDS, copy N WORDS
     done N.., delete N.., reopen N.., start N.., stop N..
-    note N TEXT, unnote N TEXT, needs N M, free N M, show N
+    note N.. TEXT, unnote N.. TEXT, needs N M, free N M, show N
     log, log N               who did what on the board, or on one task
-    undo                     takes back the last done, delete, start, stop, note or link
+    undo                     takes back the last command, then the one before it
     use B                    makes B the board of the settings
     import FILE              JSON or lines of todo.txt, of any length; - is standard input. After
                              it --check tells what can't be taken, --clean respells what another
@@ -160,15 +162,19 @@ of the board. One look at the board serves all numbers of a command.
     export, todo             all tasks as JSON; as lines of todo.txt
     setup                    asks for server, name, board and key, and writes them
 
-    N, M    the number of a task in the list, or its uuid
+    N, M    the number of a task in the list, 3-8 or 3,5 for several, or its uuid
     B       the number or the title of a board
     WORDS   due:DAY, wait:DAY, scheduled:DAY, until:DAY, pri:H, M or L, +PROJECT or
-            project:PROJECT, @TAG, for:NAME, rec:STEP
-    DAY     today, tomorrow, a weekday as friday or fri, 3d or +3d, 2w, 2026-12-01, or a time on
-            one, as 2026-12-01T14:00, in the zone of TZ or of this machine
-    FILTER  +PROJECT, @TAG, for:NAME, mine, due:today, due:week, due:DAY, overdue, blocked,
-            waiting, done:today, done:week, a text of the description or a note; --sort urgency,
-            due or project; --json
+            project:PROJECT, @TAG or tags:A,B, for:NAME or for:me, rec:STEP, depends:N,M; after
+            -- all words are text
+    DAY     today, tomorrow, yesterday, now, a weekday as friday or fri, 3d, 2w, 1mo, eow, eom,
+            2026-12-01, 12-24, 24.12., or a time on one, as 2026-12-01T14:00 or fri14:00, in the
+            zone of TZ or of this machine
+    FILTER  +PROJECT, @TAG, for:NAME, mine, pri:H, due:today, due:week, due:DAY, due:before:DAY,
+            due:after:DAY, overdue, blocked, waiting, a text of the description or a note; done,
+            done:DAY, recurring, all or status:WORD in place of the open tasks; not: or - before
+            one; --sort urgency, due or project; --json
+    --for   how long a call is tried, 60 seconds where it isn't given
 
 Who asks which server stands in ~/.config/taskboard/config, in lines such as
 

@@ -3,7 +3,7 @@ use Rattle.std.specs.Prelude.{ℕ, ◌+◌, Bool, true, false, is_some, List, []
 use Rattle.tb_finding.specs.Board.{Text}
 use Rattle.tb_finding.specs.Order.{Key}
 use Rattle.tb_finding.specs.Table.{fitted}
-use Rattle.tb_finding.specs.Tests.{assignee, is_overdue}
+use Rattle.tb_finding.specs.Tests.{assignee, is_overdue, letter_of}
 use Rattle.tb_finding.specs.Words.{moment_word}
 use Rattle.tb_finding.specs.declared.look.Look.{Look}
 use Rattle.tb_finding.specs.declared.table.Cells.{Cells}
@@ -12,15 +12,7 @@ use Rattle.tb_graph.specs.Marks.{is_marked}
 use Rattle.tb_my.specs.Telling.{shown_text}
 use Rattle.tb_my.specs.declared.zone.Clock.{Clock}
 use Rattle.tb_report.specs.Urgencies.{is_waiting_now}
-use Rattle.tb_task.specs.declared.priority.Priority.{Priority}
-use Rattle.tb_task.specs.declared.priority.Priority.TheVariants.{High, Medium, Low}
 use Rattle.tb_task.specs.declared.task.Task.{Task}
-
-abbrev pub letter_of : Option Priority → Text
-letter_of None = []
-letter_of (Some High) = codes "H"
-letter_of (Some Medium) = codes "M"
-letter_of (Some Low) = codes "L"
 
 -- waiting, or work has begun
 abbrev pub standing : Task → Text

@@ -4,6 +4,7 @@ pub mod Deeds
 pub mod Json
 pub mod Listing
 pub mod Showing
+pub mod Names
 pub mod Order
 pub mod Table
 pub mod Tests

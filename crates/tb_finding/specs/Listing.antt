@@ -3,11 +3,14 @@ use Rattle.std.specs.Prelude.{ℕ, Bool, ◌==◌, List, [], ◌∷◌, ◌++◌
 use Rattle.tb_finding.specs.Board.{Text, look_of, tasks_in}
 use Rattle.tb_finding.specs.Cells.{cells_of}
 use Rattle.tb_finding.specs.Json.{json_list}
+use Rattle.tb_finding.specs.Names.{names_text}
 use Rattle.tb_finding.specs.Order.{Key, found}
 use Rattle.tb_finding.specs.Table.{table}
 use Rattle.tb_finding.specs.declared.look.Look.{Look}
 use Rattle.tb_finding.specs.declared.table.Cells.{Cells}
 use Rattle.tb_finding.specs.declared.table.Style.{Style}
+use Rattle.tb_my.specs.declared.query.Listing.{Listing}
+use Rattle.tb_my.specs.declared.query.Listing.TheVariants as listing
 use Rattle.tb_my.specs.declared.query.Query.{Query}
 use Rattle.tb_my.specs.declared.zone.Clock.{Clock}
 use Rattle.tb_task.specs.declared.task.Task.{Task}
@@ -32,9 +35,15 @@ list_of clock style look keys =
     table style (all_cells clock style look keys)
     ++ count_line (length keys) (length look.tasks)
 
+abbrev pub told_as : Listing → Clock → Style → Look → List Key → Text
+told_as listing.Tasks clock style look keys = list_of clock style look keys
+told_as listing.Next clock style look keys = list_of clock style look keys
+told_as listing.Projects clock style look keys = names_text listing.Projects look keys
+told_as listing.Tags clock style look keys = names_text listing.Tags look keys
+
 abbrev pub told : Clock → Style → Query → Look → Text
 told clock style query look = if query.is_json then json_list look (found clock query look)
-    else list_of clock style look (found clock query look)
+    else told_as query.listing clock style look (found clock query look)
 
 -- of an export, if it is one
 abbrev pub found_text : Clock → Style → Query → Text → Option Text

@@ -3,9 +3,9 @@ use Rattle.std.specs.Prelude.{ℕ, ℤ, ◌+◌, ◌==◌, List, [], ◌∷◌, 
 use Rattle.std.specs.Str.{bytes_eq}
 use Rattle.serde_json.specs.Read.{read}
 use Rattle.tb_finding.specs.Board.{Text, task_in}
-use Rattle.tb_finding.specs.Cells.{letter_of, moment_cell, tag_words}
+use Rattle.tb_finding.specs.Cells.{moment_cell, tag_words}
 use Rattle.tb_finding.specs.Json.{truth}
-use Rattle.tb_finding.specs.Tests.{assignee}
+use Rattle.tb_finding.specs.Tests.{assignee, letter_of}
 use Rattle.tb_finding.specs.Words.{moment_word}
 use Rattle.tb_my.specs.Days.{after_key}
 use Rattle.tb_my.specs.Telling.{shown_text}

@@ -1,5 +1,5 @@
 -- What a task has to be to be found.
-use Rattle.std.specs.Prelude.{ℕ, Bool, true, false, ◌&&◌, ◌||◌, ◌==◌, ◌+◌, nat_le, nat_lt, List, [], ◌∷◌, ◌++◌, codes, Option, Some, None, if◌then◌else◌}
+use Rattle.std.specs.Prelude.{ℕ, Bool, true, false, not, ◌&&◌, ◌||◌, ◌==◌, ◌+◌, nat_le, nat_lt, List, [], ◌∷◌, ◌++◌, codes, Option, Some, None, if◌then◌else◌}
 use Rattle.std.specs.Str.{bytes_eq}
 use Rattle.tb_board.specs.Statuses.{is_pending_or_waiting}
 use Rattle.tb_finding.specs.Board.{Text}
@@ -7,13 +7,18 @@ use Rattle.tb_my.specs.Days.{after_key}
 use Rattle.tb_my.specs.Zone.{day_at, is_timed, today}
 use Rattle.tb_my.specs.declared.query.Days.{Days}
 use Rattle.tb_my.specs.declared.query.Query.{Query}
+use Rattle.tb_my.specs.declared.query.Standing.{Standing}
+use Rattle.tb_my.specs.declared.query.Standing.TheVariants as standing
 use Rattle.tb_my.specs.declared.query.Test.{Test}
 use Rattle.tb_my.specs.declared.query.Test.TheVariants as test
+use Rattle.tb_my.specs.declared.query.Wanted.{Wanted}
 use Rattle.tb_my.specs.declared.zone.Clock.{Clock}
 use Rattle.tb_report.specs.Urgencies.{is_waiting_now}
 use Rattle.tb_task.specs.declared.extra.Extra.{Extra}
 use Rattle.tb_task.specs.declared.extra.ExtraValue.{ExtraValue}
 use Rattle.tb_task.specs.declared.extra.ExtraValue.TheVariants as extra
+use Rattle.tb_task.specs.declared.priority.Priority.{Priority}
+use Rattle.tb_task.specs.declared.priority.Priority.TheVariants.{High, Medium, Low}
 use Rattle.tb_task.specs.declared.status.Status.{Status}
 use Rattle.tb_task.specs.declared.status.Status.TheVariants as status
 use Rattle.tb_task.specs.declared.task.Annotation.{Annotation}
@@ -32,7 +37,7 @@ is_within whole project =
     bytes_eq project whole || begins_with_dot (after_key whole project)
 
 abbrev pub is_of_project : Text → Option Text → Bool
-is_of_project whole None = false
+is_of_project whole None = bytes_eq whole []
 is_of_project whole (Some project) = is_within whole project
 
 abbrev pub has_text : Text → List Text → Bool
@@ -94,11 +99,18 @@ says part t = contains part t.description || some_note_has part t.annotations
 
 -- ---- all tests
 
+abbrev pub letter_of : Option Priority → Text
+letter_of None = []
+letter_of (Some High) = codes "H"
+letter_of (Some Medium) = codes "M"
+letter_of (Some Low) = codes "L"
+
 -- of a task that is blocked or not
 abbrev pub passes : Clock → Bool → Task → Test → Bool
 passes clock blocked t (test.Project whole) = is_of_project whole t.project
 passes clock blocked t (test.Tag tag) = has_text tag t.tags
 passes clock blocked t (test.For name) = bytes_eq (assignee t.extras) name
+passes clock blocked t (test.Priority letter) = bytes_eq (letter_of t.priority) letter
 passes clock blocked t (test.Due days) = is_on clock days t.due
 passes clock blocked t test.Overdue = is_overdue clock t.due
 passes clock blocked t test.Blocked = blocked
@@ -106,24 +118,47 @@ passes clock blocked t test.Waiting = is_waiting_now t.status
 passes clock blocked t (test.Done days) = is_on clock days t.end
 passes clock blocked t (test.Says part) = says part t
 
-abbrev pub passes_all : Clock → Bool → Task → List Test → Bool
+-- it passes the test, or it doesn't
+abbrev pub is_as_wanted : Clock → Bool → Task → Wanted → Bool
+is_as_wanted clock blocked t wanted = if wanted.is_so then passes clock blocked t wanted.test
+    else not (passes clock blocked t wanted.test)
+
+abbrev pub passes_all : Clock → Bool → Task → List Wanted → Bool
 passes_all clock blocked t [] = true
-passes_all clock blocked t (one ∷ tests) =
-    passes clock blocked t one && passes_all clock blocked t tests
+passes_all clock blocked t (wanted ∷ tests) =
+    is_as_wanted clock blocked t wanted && passes_all clock blocked t tests
+
+abbrev pub is_pending : Status → Bool
+is_pending status.Pending = true
+is_pending other = false
+
+abbrev pub is_waiting : Status → Bool
+is_waiting status.Waiting = true
+is_waiting other = false
+
+abbrev pub is_recurring : Status → Bool
+is_recurring status.Recurring = true
+is_recurring other = false
 
 abbrev pub is_completed : Status → Bool
 is_completed status.Completed = true
-is_completed status.Pending = false
-is_completed status.Waiting = false
-is_completed status.Recurring = false
-is_completed status.Deleted = false
+is_completed other = false
 
--- pending and waiting tasks, or the completed ones
-abbrev pub has_status : Bool → Status → Bool
-has_status true s = is_completed s
-has_status false s = is_pending_or_waiting s
+abbrev pub is_deleted : Status → Bool
+is_deleted status.Deleted = true
+is_deleted other = false
+
+-- pending and waiting tasks, or those of another status, or all
+abbrev pub has_standing : Standing → Status → Bool
+has_standing standing.Open s = is_pending_or_waiting s
+has_standing standing.Pending s = is_pending s
+has_standing standing.Waiting s = is_waiting s
+has_standing standing.Recurring s = is_recurring s
+has_standing standing.Completed s = is_completed s
+has_standing standing.Deleted s = is_deleted s
+has_standing standing.Any s = true
 
 -- Rule: `tb list` shows the tasks that pass each of its words. Tried by my.sh.
 abbrev pub is_found : Clock → Query → Bool → Task → Bool
 is_found clock query blocked t =
-    has_status query.is_closed t.status && passes_all clock blocked t query.tests
+    has_standing query.standing t.status && passes_all clock blocked t query.tests

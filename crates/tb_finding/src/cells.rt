@@ -1,18 +1,18 @@
 //! What a line of the list shows of a task.
 ghost use Rattle.std.specs.Prelude.{◌≡◌, ◌<◌, ◌+◌, ◌^◌, ◌++◌, IfOk, OnOk, decimal, string_bytes};
-ghost use Rattle.tb_finding.specs.Cells.{cells_of, letter_of, mark_if, marks, moment_cell, project_cell, short_room, standing, tag_words, what_of};
+ghost use Rattle.tb_finding.specs.Cells.{cells_of, mark_if, marks, moment_cell, project_cell, short_room, standing, tag_words, what_of};
 ghost use Rattle.tb_finding.specs.Table.{fitted};
 ghost use Rattle.tb_my.specs.Telling.{shown_text};
 ghost use Rattle.tb_report.specs.Urgencies.{is_waiting_now};
 
 use crate::look::Look;
 use crate::table::{Cells, Style, push_fitted};
-use crate::tests::{assignee, is_overdue};
+use crate::tests::{assignee, is_overdue, letter_of};
 use crate::words::push_moment;
 use std::alloc::{AllocError, Global};
 use std::fmt::Write;
 use tb_my::{Clock, push_shown};
-use tb_task::{Moment, Priority, Status, Task};
+use tb_task::{Moment, Status, Task};
 use tb_values::{NonEmptyText, Text};
 
 /// The most columns of a project and of a name on a terminal.
@@ -74,17 +74,6 @@ fn marks(
     text.push_str(mark_if(is_blocked, "b"))?;
     text.push_str(mark_if(is_blocking, "k"))?;
     Ok(Text::from_string(text))
-}
-
-pub(crate) fn letter_of(priority: Option<Priority>) -> &'static str
-    ensures { result.now ≡ letter_of priority }
-{
-    match priority {
-        None => "",
-        Some(Priority::High) => "H",
-        Some(Priority::Medium) => "M",
-        Some(Priority::Low) => "L",
-    }
 }
 
 /// Waiting, or work has begun.

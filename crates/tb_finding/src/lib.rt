@@ -9,6 +9,7 @@ mod finding;
 mod json;
 mod listing;
 mod look;
+mod names;
 mod showing;
 mod table;
 mod tests;

@@ -6,10 +6,11 @@ use crate::cells::cells_of;
 use crate::finding::{Key, found};
 use crate::json::json_list;
 use crate::look::{Look, read_tasks};
+use crate::names::names_text;
 use crate::table::{Cells, Style, table};
 use std::alloc::{AllocError, Global};
 use std::fmt::Write;
-use tb_my::{Clock, Query};
+use tb_my::{Clock, Listing, Query};
 use tb_values::{Items, Text};
 
 /// What is told of an export by a query, if it is one: the found tasks in their order, in lines or as JSON.
@@ -41,9 +42,13 @@ fn told(
 {
     let keys = found(alloc, clock, query, look)?;
     if query.is_json {
-        json_list(alloc, look, keys.as_slice())
-    } else {
-        list_of(alloc, clock, style, look, keys.as_slice())
+        return json_list(alloc, look, keys.as_slice());
+    }
+    match query.listing {
+        Listing::Tasks | Listing::Next => list_of(alloc, clock, style, look, keys.as_slice()),
+        Listing::Projects | Listing::Tags => {
+            names_text(alloc, query.listing, look, keys.as_slice())
+        }
     }
 }
 

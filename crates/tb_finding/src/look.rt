@@ -2,14 +2,15 @@
 ghost use Rattle.std.specs.Prelude.{◌≡◌, ◌<◌, ◌+◌, ◌^◌, [], IfOk, IsSome, codes, option_map, slice_get};
 ghost use Rattle.serde_json.specs.Read.{read};
 ghost use Rattle.serde_json.specs.View.{items_view, view};
-ghost use Rattle.tb_finding.specs.Board.{board_of, linked_task, look_of, task_in, tasks_in, tasks_of, with_tasks};
+ghost use Rattle.tb_finding.specs.Board.{board_of, linked_task, look_of, task_in, tasks_in, tasks_of, told_status, with_tasks};
 ghost use Rattle.tb_graph.specs.Marks.{is_marked};
 
 use serde_json::Value;
 use std::alloc::{AllocError, Global};
 use tb_board::{Board, TaskList, Title, waits_of};
 use tb_json::{JsonFault, parse, read_task};
-use tb_task::{Incoming, Moment, Task};
+use tb_my::text_at;
+use tb_task::{Incoming, Moment, Status, Task};
 use tb_values::{Duplicate, Items, Shared};
 
 /// The tasks of a board, and by their places which are blocked and which are blocking.
@@ -70,16 +71,27 @@ pub(crate) fn task_in(alloc: Global, value: &Value, at: Moment) -> Result<Option
     ensures { IfOk result (λ task. task ≡ task_in at (view value.now)) }
 {
     match read_task(alloc, value, at) {
-        Ok(incoming) => Ok(Some(linked_task(incoming))),
+        Ok(incoming) => Ok(Some(linked_task(incoming, told_status(value)))),
         Err(JsonFault::Memory) => Err(AllocError),
         Err(_) => Ok(None),
     }
 }
 
-fn linked_task(incoming: Incoming) -> Task
-    ensures { result ≡ linked_task incoming }
+/// The status that a task is shown with.
+fn told_status(value: &Value) -> Option<Status>
+    ensures { result ≡ told_status (view value.now) }
+{
+    Status::read(text_at(value, "status")?)
+}
+
+/// The task with its template and the status that is told, whatever the clock here says.
+fn linked_task(incoming: Incoming, status: Option<Status>) -> Task
+    ensures { result ≡ linked_task incoming status }
 {
     let mut task = incoming.task;
+    if let Some(status) = status {
+        task.status = status;
+    }
     task.parent = incoming.raw_parent;
     task.imask = incoming.raw_imask;
     task

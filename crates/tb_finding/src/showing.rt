@@ -6,10 +6,10 @@ ghost use Rattle.tb_finding.specs.Words.{moment_word};
 ghost use Rattle.tb_my.specs.Telling.{shown_text};
 ghost use Rattle.tb_report.specs.Row.{is_negative};
 
-use crate::cells::{letter_of, moment_cell, push_tags};
+use crate::cells::{moment_cell, push_tags};
 use crate::json::truth;
 use crate::look::task_in;
-use crate::tests::assignee;
+use crate::tests::{assignee, letter_of};
 use crate::words::push_moment;
 use std::alloc::{AllocError, Global};
 use std::fmt::Write;

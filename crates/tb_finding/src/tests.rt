@@ -1,40 +1,51 @@
 //! What a task has to be to be found.
 ghost use Rattle.std.specs.Prelude.{◌≡◌, option_map};
-ghost use Rattle.tb_finding.specs.Tests.{assignee, begins, begins_with_dot, contains, has_status, has_text, is_completed, is_found, is_in, is_of_project, is_on, is_overdue, is_past, is_within, lowered, passes, passes_all, says, some_note_has, text_of};
+ghost use Rattle.tb_finding.specs.Tests.{assignee, begins, begins_with_dot, contains, has_standing, has_text, is_as_wanted, is_found, is_in, is_of_project, is_on, is_overdue, is_past, is_within, letter_of, lowered, passes, passes_all, says, some_note_has, text_of};
 ghost use Rattle.tb_report.specs.Urgencies.{is_waiting_now};
 
 use tb_board::is_pending_or_waiting_status;
-use tb_my::{Clock, Days, Query, Test, after_key};
-use tb_task::{Annotation, Extra, ExtraValue, Moment, Status, Task};
+use tb_my::{Clock, Days, Query, Standing, Test, Wanted, after_key};
+use tb_task::{Annotation, Extra, ExtraValue, Moment, Priority, Status, Task};
 use tb_values::{NonEmptyText, Text};
 
 /// Whether a query asks for a task, which is blocked or not.
 pub fn is_found(clock: &Clock, query: &Query, is_blocked: bool, task: &Task) -> bool
     ensures { result ≡ is_found clock.now query.now is_blocked task.now }
 {
-    has_status(query.is_closed, task.status)
+    has_standing(query.standing, task.status)
         && passes_all(clock, is_blocked, task, query.tests.as_slice())
 }
 
-fn has_status(is_closed: bool, status: Status) -> bool
-    ensures { result ≡ has_status is_closed status }
+fn has_standing(standing: Standing, status: Status) -> bool
+    ensures { result ≡ has_standing standing status }
 {
-    if is_closed {
-        matches!(status, Status::Completed)
-    } else {
-        is_pending_or_waiting_status(status)
+    match standing {
+        Standing::Open => is_pending_or_waiting_status(status),
+        Standing::Pending => matches!(status, Status::Pending),
+        Standing::Waiting => matches!(status, Status::Waiting),
+        Standing::Recurring => matches!(status, Status::Recurring),
+        Standing::Completed => matches!(status, Status::Completed),
+        Standing::Deleted => matches!(status, Status::Deleted),
+        Standing::Any => true,
     }
 }
 
-fn passes_all(clock: &Clock, is_blocked: bool, task: &Task, tests: &[Test]) -> bool
+fn passes_all(clock: &Clock, is_blocked: bool, task: &Task, tests: &[Wanted]) -> bool
     ensures { result ≡ passes_all clock.now is_blocked task.now tests.now }
 {
-    for test in tests {
-        if !passes(clock, is_blocked, task, test) {
+    for wanted in tests {
+        if !is_as_wanted(clock, is_blocked, task, wanted) {
             return false;
         }
     }
     true
+}
+
+fn is_as_wanted(clock: &Clock, is_blocked: bool, task: &Task, wanted: &Wanted) -> bool
+    ensures { result ≡ is_as_wanted clock.now is_blocked task.now wanted.now }
+{
+    let does_pass = passes(clock, is_blocked, task, &wanted.test);
+    if wanted.is_so { does_pass } else { !does_pass }
 }
 
 fn passes(clock: &Clock, is_blocked: bool, task: &Task, test: &Test) -> bool
@@ -44,6 +55,7 @@ fn passes(clock: &Clock, is_blocked: bool, task: &Task, test: &Test) -> bool
         Test::Project(whole) => is_of_project(whole.as_str(), &task.project),
         Test::Tag(tag) => has_text(tag, task.tags.as_slice()),
         Test::For(name) => assignee(task.extras.as_slice()) == name.as_str(),
+        Test::Priority(letter) => letter_of(task.priority) == letter.as_str(),
         Test::Due(days) => is_on(clock, *days, task.due),
         Test::Overdue => is_overdue(clock, task.due),
         Test::Blocked => is_blocked,
@@ -53,12 +65,24 @@ fn passes(clock: &Clock, is_blocked: bool, task: &Task, test: &Test) -> bool
     }
 }
 
+pub(crate) fn letter_of(priority: Option<Priority>) -> &'static str
+    ensures { result.now ≡ letter_of priority }
+{
+    match priority {
+        None => "",
+        Some(Priority::High) => "H",
+        Some(Priority::Medium) => "M",
+        Some(Priority::Low) => "L",
+    }
+}
+
+/// Whether a task is of a project, or of none where that is empty.
 fn is_of_project(whole: &str, project: &Option<NonEmptyText>) -> bool
     ensures { result ≡ is_of_project whole.now project.now }
 {
     match project {
         Some(project) => is_within(whole, project.as_str()),
-        None => false,
+        None => whole.is_empty(),
     }
 }
 

@@ -6,7 +6,7 @@ use Rattle.tb_mine.specs.Asked.{AreOf, Asked, IsAskedFor, IsOf, Output, all_acce
 use Rattle.tb_mine.specs.declared.asks.Answer.{Answer}
 use Rattle.tb_my.specs.Outcome.{Fails}
 use Rattle.tb_my.specs.declared.fault.MyFault.{MyFault}
-use Rattle.tb_my.specs.declared.fault.MyFault.TheVariants.{BadLine, Lacks, Memory, NoBoard, NoDay, NoForm, NoPriority, NoTask, NoWord, TwoBoards, Unfit}
+use Rattle.tb_my.specs.declared.fault.MyFault.TheVariants.{BadLine, Lacks, Linked, Memory, NoAttribute, NoBoard, NoDay, NoFilter, NoForm, NoOption, NoPlace, NoPriority, NoSeconds, NoStep, NoTask, NoWord, OneTask, TwoBoards, Unchanged, Unfit}
 use Rattle.tb_my.specs.Days.{Text}
 use Rattle.tb_my.specs.declared.sent.Sent.{Sent}
 use Rattle.tb_values.proofs.Appends.{Appends-then}
@@ -18,7 +18,16 @@ refused_is (NoWord word) expected p h = absurd (true≢false (sym p))
 refused_is (NoForm word) expected p h = absurd (true≢false (sym p))
 refused_is (NoDay word) expected p h = absurd (true≢false (sym p))
 refused_is (NoPriority word) expected p h = absurd (true≢false (sym p))
+refused_is (NoStep word) expected p h = absurd (true≢false (sym p))
+refused_is (NoOption word) expected p h = absurd (true≢false (sym p))
+refused_is (NoAttribute word) expected p h = absurd (true≢false (sym p))
+refused_is (NoFilter word) expected p h = absurd (true≢false (sym p))
+refused_is (NoSeconds word) expected p h = absurd (true≢false (sym p))
 refused_is (NoTask word) expected p h = h
+refused_is (NoPlace word) expected p h = h
+refused_is OneTask expected p h = absurd (true≢false (sym p))
+refused_is (Linked told) expected p h = h
+refused_is Unchanged expected p h = h
 refused_is (NoBoard name) expected p h = h
 refused_is (TwoBoards name) expected p h = h
 refused_is (BadLine line) expected p h = absurd (true≢false (sym p))

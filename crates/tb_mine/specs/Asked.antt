@@ -1,5 +1,5 @@
 -- What is asked of a server for words of `my`, in which order, and what is printed of the answers.
-use Rattle.std.specs.Prelude.{◌≡◌, ℕ, Bool, true, false, ◌&&◌, List, [], ◌∷◌, ◌++◌, codes, Option, Some, None, Result, Ok, Err}
+use Rattle.std.specs.Prelude.{◌≡◌, ℕ, Bool, true, false, ◌&&◌, List, [], ◌∷◌, ◌++◌, codes, Option, Some, None, option_and_then, Result, Ok, Err}
 use Rattle.std.specs.Io.KnownBytes.{Appends}
 use Rattle.tb_finding.specs.Listing.{found_text}
 use Rattle.tb_mine.specs.Printed.{printed_of}
@@ -10,9 +10,11 @@ use Rattle.tb_my.specs.Look.{seen_in}
 use Rattle.tb_my.specs.Options.{listed_words}
 use Rattle.tb_my.specs.Query.{query_of}
 use Rattle.tb_my.specs.Sent.{looks, sent_of}
+use Rattle.tb_my.specs.Telling.{added_text, number_of_task}
 use Rattle.tb_my.specs.declared.fault.MyFault.{MyFault}
-use Rattle.tb_my.specs.declared.fault.MyFault.TheVariants.{NoBoard, NoTask, TwoBoards}
+use Rattle.tb_my.specs.declared.fault.MyFault.TheVariants.{Linked, NoBoard, NoPlace, NoTask, TwoBoards, Unchanged}
 use Rattle.tb_my.specs.declared.look.Seen.{Seen}
+use Rattle.tb_my.specs.declared.query.Listing.{Listing}
 use Rattle.tb_my.specs.declared.query.Query.{Query}
 use Rattle.tb_my.specs.declared.sent.Sent.{Sent}
 
@@ -61,9 +63,12 @@ pub record IsAskedFor (print : Sent → Answer → Text) (all : List Sent) (aske
 
 -- ---- refusals before anything is asked for
 
--- the board has no such task, or the person no such board or more than one
+-- the board has no such task, the person has no such board or more than one, or there is nothing to do
 abbrev pub is_refusal : MyFault → Bool
 is_refusal (NoTask word) = true
+is_refusal (NoPlace word) = true
+is_refusal (Linked told) = true
+is_refusal Unchanged = true
 is_refusal (NoBoard name) = true
 is_refusal (TwoBoards name) = true
 is_refusal fault = false
@@ -72,14 +77,6 @@ is_refusal fault = false
 abbrev pub IsRefused : List Asked → Output → Output → Bool → Type 0
 IsRefused asked before after is_accepted =
     (asked ≡ []) × (after ≡ before) × (is_accepted ≡ false)
-
--- what words come to, by what they ask for of a board whose tasks were seen
-abbrev pub IsAskedSo : Context → List Seen → Result (List Sent) MyFault → List Asked
-    → Output → Output → Bool → Type 0
-IsAskedSo context tasks (Ok all) asked before after is_accepted =
-    IsAskedFor (printed_of context.clock tasks) all asked before after is_accepted
-IsAskedSo context tasks (Err fault) asked before after is_accepted =
-    (is_refusal fault ≡ true) × IsRefused asked before after is_accepted
 
 -- ---- a look at the board
 
@@ -91,6 +88,61 @@ IsLookAt board look (Some export) =
 IsLookAt board look None =
     (look.words ≡ codes "export" ∷ board ∷ []) × (look.call ≡ None)
     × (look.answer.is_accepted ≡ false)
+
+-- ---- a task that is added
+
+-- a call that adds a task stands alone
+abbrev pub adds_of : List Sent → Option ℕ
+adds_of [] = None
+adds_of (sent ∷ []) = sent.adds
+adds_of (sent ∷ other ∷ all) = None
+
+-- the number of a task among those of an export
+abbrev pub number_in : ℕ → Option (List ℕ) → Option ℕ
+number_in id export =
+    option_and_then (number_of_task 0 id) (option_and_then seen_in export)
+
+-- The board is looked at once more, for the number of the task.
+pub record IsNumberedBy (context : Context) (sent : Sent) (id : ℕ) (rest : List Asked)
+    (before after : Output) (is_accepted : Bool) : Type 0 where
+  pub look : Asked
+  pub export : Option (List ℕ)
+  pub is : IsLookAt context.board look export
+  pub alone : rest ≡ look ∷ []
+  pub accepted : is_accepted ≡ true
+  pub printed : Appends before after (added_text sent.told (number_in id export) ++ 10 ∷ [])
+
+abbrev pub IsNumberedIf : Bool → Context → Sent → ℕ → List Asked → Output → Output → Bool → Type 0
+IsNumberedIf true context sent id rest before after is_accepted =
+    IsNumberedBy context sent id rest before after is_accepted
+IsNumberedIf false context sent id rest before after is_accepted =
+    IsRefused rest before after is_accepted
+
+pub record IsAdded (context : Context) (sent : Sent) (id : ℕ) (asked : List Asked)
+    (before after : Output) (is_accepted : Bool) : Type 0 where
+  pub call : Asked
+  pub is : IsOf sent call
+  pub rest : List Asked
+  pub first : asked ≡ call ∷ rest
+  pub numbered : IsNumberedIf call.answer.is_accepted context sent id rest before after is_accepted
+
+-- ---- all calls of words
+
+abbrev pub IsCalled : Context → List Seen → List Sent → Option ℕ → List Asked → Output → Output
+    → Bool → Type 0
+IsCalled context tasks all None asked before after is_accepted =
+    IsAskedFor (printed_of context.clock tasks) all asked before after is_accepted
+IsCalled context tasks [] (Some id) asked before after is_accepted = ⊥
+IsCalled context tasks (sent ∷ all) (Some id) asked before after is_accepted =
+    IsAdded context sent id asked before after is_accepted
+
+-- what words come to, by what they ask for of a board whose tasks were seen
+abbrev pub IsAskedSo : Context → List Seen → Result (List Sent) MyFault → List Asked
+    → Output → Output → Bool → Type 0
+IsAskedSo context tasks (Ok all) asked before after is_accepted =
+    IsCalled context tasks all (adds_of all) asked before after is_accepted
+IsAskedSo context tasks (Err fault) asked before after is_accepted =
+    (is_refusal fault ≡ true) × IsRefused asked before after is_accepted
 
 -- what comes after the look: nothing else, where it was refused
 abbrev pub GoesOn : (List ℕ → List Asked → Type 0) → Option (List ℕ) → List Asked
@@ -132,7 +184,7 @@ pub record IsAskedOver (context : Context) (words : List Text) (before after : O
   pub tasks : List Seen
   pub seen : seen_in export ≡ Some tasks
   pub asked : IsAskedSo context tasks
-      (sent_of context.clock context.call context.board tasks words)
+      (sent_of context.clock context.me context.call context.board tasks words)
       more before after is_accepted
 
 -- The tasks that words name are those that the board has now.
@@ -147,13 +199,14 @@ abbrev pub IsDoneIf : Bool → Context → List Text → List Asked → Output �
 IsDoneIf true context words asked before after is_accepted =
     IsAskedOfTasks context words asked before after is_accepted
 IsDoneIf false context words asked before after is_accepted =
-    IsAskedSo context [] (sent_of context.clock context.call context.board [] words)
+    IsAskedSo context [] (sent_of context.clock context.me context.call context.board [] words)
     asked before after is_accepted
 
-abbrev pub IsDoneBy : Option (List Text) → Context → List Text → List Asked → Output → Output
-    → Bool → Type 0
+abbrev pub IsDoneBy : Option (Listing × List Text) → Context → List Text → List Asked → Output
+    → Output → Bool → Type 0
 IsDoneBy (Some listed) context words asked before after is_accepted =
-    IsListedSo context (query_of context.clock context.me listed) asked before after is_accepted
+    IsListedSo context (query_of context.clock context.me listed.0 listed.1)
+    asked before after is_accepted
 IsDoneBy None context words asked before after is_accepted =
     IsDoneIf (looks words) context words asked before after is_accepted
 

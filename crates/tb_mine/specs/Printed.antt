@@ -1,10 +1,10 @@
 -- What is printed of an answer.
-use Rattle.std.specs.Prelude.{◌||◌, List, [], ◌∷◌, ◌++◌, codes, Option, Some, None, if◌then◌else◌}
+use Rattle.std.specs.Prelude.{◌||◌, List, [], ◌∷◌, ◌++◌, codes, Option, Some, None, unwrap_or, if◌then◌else◌}
 use Rattle.std.specs.Str.{bytes_eq}
 use Rattle.tb_finding.specs.Deeds.{log_text}
 use Rattle.tb_finding.specs.Showing.{show_text}
 use Rattle.tb_mine.specs.declared.asks.Answer.{Answer}
-use Rattle.tb_my.specs.Days.{Text}
+use Rattle.tb_my.specs.Days.{Text, before_key}
 use Rattle.tb_my.specs.Shown.{shown_answer}
 use Rattle.tb_my.specs.declared.look.Seen.{Seen}
 use Rattle.tb_my.specs.declared.sent.Sent.{Sent}
@@ -33,9 +33,14 @@ abbrev pub told_or : Text → Text → Text
 told_or [] view = view
 told_or (byte ∷ told) view = (byte ∷ told) ++ 10 ∷ []
 
+-- without the end of the last line
+abbrev pub unended : Text → Text
+unended text = unwrap_or (before_key (codes "\n") text) text
+
+-- Rule: `--json` prints the answer as it came. Tried by my.sh.
 abbrev pub shown_by : Clock → List Seen → Sent → Text → Text
-shown_by clock tasks sent body =
-    told_or sent.told (view_text clock tasks (first_word sent.words) body)
+shown_by clock tasks sent body = if sent.is_json then unended body ++ 10 ∷ []
+    else told_or sent.told (view_text clock tasks (first_word sent.words) body)
 
 -- of what was refused nothing is printed
 abbrev pub if_accepted : Answer → Text → Text

@@ -9,7 +9,7 @@ use crate::asks::{Answer, Asks};
 use crate::telling::{refused, text_in};
 use std::alloc::Global;
 use std::io::Write;
-use tb_my::{import_told, import_words, refusal_text};
+use tb_my::{Sent, import_told, import_words, refusal_text};
 use tb_program::{Fault, print_line};
 use tb_values::{Items, Text};
 
@@ -61,7 +61,20 @@ fn import_part<A: Asks, W: Write, E: Write>(
     }
     let told = import_told(alloc, text_in(&answer.body)?)?;
     print_line(writer, told.as_str())?;
+    asks.keep(&imported(alloc, told))?;
     Ok(true)
+}
+
+/// An import, as it is kept: nothing takes it back.
+fn imported(alloc: Global, told: Text) -> Sent {
+    Sent {
+        words: Items::new(alloc),
+        told,
+        back: Items::new(alloc),
+        call: None,
+        adds: None,
+        is_json: false,
+    }
 }
 
 /// Tells why a part is refused: as it came, which says of which task, and in words where there are some.

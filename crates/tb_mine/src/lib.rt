@@ -3,6 +3,7 @@
 //! words become, on `tb_finding` for lists, tasks and histories in lines, and on `tb_program` for faults and printing.
 #![tactic(auto)]
 
+mod adding;
 mod asks;
 mod context;
 mod importing;

@@ -12,7 +12,7 @@ use crate::telling::{refused, text_in, wrong};
 use std::alloc::{AllocError, Global};
 use std::io::Write;
 use tb_finding::found_text;
-use tb_my::{Query, query_of};
+use tb_my::{Listing, Query, query_of};
 use tb_program::{Fault, print_text};
 use tb_values::{Duplicate, Items, Text};
 
@@ -50,17 +50,18 @@ pub(crate) fn ask_list<A: Asks, W: Write, E: Write>(
     alloc: Global,
     asks: &mut A,
     context: &Context,
+    listing: Listing,
     words: &[Text],
     writer: &mut W,
     errors: &mut E,
 ) -> Result<bool, Fault>
     ensures asked { IfOk result (λ is_accepted. (asked : List Asked)
         × A.follows asked asks.old asks.new
-        × IsListedSo context.now (query_of context.now.clock context.now.me words.now)
+        × IsListedSo context.now (query_of context.now.clock context.now.me listing words.now)
         asked (W.contents writer.old) (W.contents writer.new) is_accepted) }
     ensures fault { IfErr result (λ fault. is_of_asking fault ≡ true) }
 {
-    let query = match query_of(alloc, &context.clock, &context.me, words) {
+    let query = match query_of(alloc, &context.clock, &context.me, listing, words) {
         Ok(query) => query,
         Err(fault) => {
             wrong(alloc, "", 0, &fault, errors)?;

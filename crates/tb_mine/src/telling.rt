@@ -3,7 +3,7 @@ ghost use Rattle.std.specs.Prelude.{◌≡◌, ◌++◌, ◌∷◌, [], IfErr, I
 ghost use Rattle.std.specs.Io.KnownBytes.{Appends};
 ghost use Rattle.tb_mine.specs.Asked.{is_refusal};
 ghost use Rattle.tb_mine.specs.Faults.{is_of_asking};
-ghost use Rattle.tb_mine.specs.Printed.{first_word, or_shown, shown_by, view_text};
+ghost use Rattle.tb_mine.specs.Printed.{first_word, or_shown, shown_by, unended, view_text};
 
 use crate::asks::Answer;
 use crate::context::Context;
@@ -11,7 +11,7 @@ use std::alloc::{AllocError, Global};
 use std::io::Write;
 use std::str;
 use tb_finding::{log_text, show_text};
-use tb_my::{MyFault, Seen, Sent, fault_text, refusal_text, shown_answer};
+use tb_my::{MyFault, Seen, Sent, before_key, fault_text, refusal_text, shown_answer};
 use tb_program::{Fault, print_line, print_text};
 use tb_values::{Items, Text};
 
@@ -28,6 +28,9 @@ pub(crate) fn tell<W: Write>(
         (shown_by context.now.clock tasks.now sent.now answer.now.body)) }
     ensures fault { IfErr result (λ fault. is_of_asking fault ≡ true) }
 {
+    if sent.is_json {
+        return print_line(writer, unended(text_in(&answer.body)?));
+    }
     if !sent.told.is_empty() {
         return print_line(writer, sent.told.as_str());
     }
@@ -35,6 +38,16 @@ pub(crate) fn tell<W: Write>(
     let name = first_word(sent.words.as_slice());
     let text = view_text(alloc, context, tasks, name, body)?;
     print_text(writer, text.as_str())
+}
+
+/// A text without the end of its last line.
+fn unended(text: &str) -> &str
+    ensures { result.now ≡ unended text.now }
+{
+    match before_key(text, "\n") {
+        Some(front) => front,
+        None => text,
+    }
 }
 
 /// The answer of the view of a name, for people: an export and lines of todo.txt as they came.
@@ -101,7 +114,8 @@ pub fn refused<E: Write>(alloc: Global, answer: &Answer, errors: &mut E) -> Resu
     Ok(())
 }
 
-/// Tells what is wrong of words or settings, which is a fault, or that there is no one task or board of that name, which is a refusal.
+/// Tells what is wrong of words or settings, which is a fault, or that there is no one task or board of that name or nothing to do, which is a
+/// refusal.
 pub fn wrong<E: Write>(
     alloc: Global,
     board: &str,
@@ -115,7 +129,12 @@ pub fn wrong<E: Write>(
     let text = fault_text(alloc, board, count, fault)?;
     let _ = print_line(errors, text.as_str());
     match fault {
-        MyFault::NoTask(_) | MyFault::NoBoard(_) | MyFault::TwoBoards(_) => Ok(()),
+        MyFault::NoTask(_)
+        | MyFault::NoPlace(_)
+        | MyFault::Linked(_)
+        | MyFault::Unchanged
+        | MyFault::NoBoard(_)
+        | MyFault::TwoBoards(_) => Ok(()),
         MyFault::Memory => Err(Fault::Memory),
         _ => Err(Fault::Bad),
     }

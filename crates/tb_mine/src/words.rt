@@ -33,7 +33,9 @@ pub fn ask_words<A: Asks, W: Write, E: Write>(
     ensures fault { IfErr result (λ fault. is_of_asking fault ≡ true) }
 {
     match listed_words(words) {
-        Some(listed) => ask_list(alloc, asks, context, listed, writer, errors),
+        Some((listing, listed)) => {
+            ask_list(alloc, asks, context, listing, listed, writer, errors)
+        }
         None if looks(words) => ask_of_tasks(alloc, asks, context, words, writer, errors),
         None => ask_seen(alloc, asks, context, &[], words, writer, errors),
     }

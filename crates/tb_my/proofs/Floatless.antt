@@ -6,7 +6,10 @@ use Rattle.std.specs.Ordering.{match_ordering}
 use Rattle.serde_json.specs.Data.{Data, null, string, Members, no_members, member, put}
 use Rattle.serde_json.specs.Written.{has_float, items_have_float, members_have_float}
 use Rattle.tb_json.specs.Writing.{id_data, items_of_texts, with_field, texts_data}
-use Rattle.tb_my.specs.Body.{add_data, added_id, change_data, value_data, with_description, with_new_tags, with_setting, with_settings, with_tags_said}
+use Rattle.tb_my.specs.Body.{add_data, added_id, back_data, change_data, value_data, with_description, with_new_tags, with_old_description, with_old_settings, with_old_value, with_setting, with_settings, with_tags_before, with_tags_said}
+use Rattle.tb_my.specs.Old.{old_named}
+use Rattle.tb_my.specs.declared.look.Seen.{Seen}
+use Rattle.tb_my.specs.declared.old.Old.{Old}
 use Rattle.tb_my.specs.Tags.{tags_after}
 use Rattle.tb_my.specs.declared.part.Setting.{Setting}
 use Rattle.tb_my.specs.declared.said.Said.{Said}
@@ -73,6 +76,27 @@ pub add_no_float : (call : Option ℕ) (said : Said) → has_float (add_data cal
 add_no_float call said =
     id_none (added_id call) _ (settings_none said.settings _ (tags_none (codes "tags") said.tags _ (described_none said.description no_members refl)))
 
-pub change_no_float : (tags : List (List ℕ)) (said : Said) → has_float (change_data tags said) ≡ false
-change_no_float tags said =
-    settings_none said.settings _ (said_none tags said.tags said.untagged _ (described_none said.description no_members refl))
+pub change_no_float : (tags : List (List ℕ)) (description : List ℕ) (said : Said) → has_float (change_data tags description said) ≡ false
+change_no_float tags description said =
+    settings_none said.settings _ (said_none tags said.tags said.untagged _ (described_none description no_members refl))
+
+before_none : (tags added taken : List (List ℕ)) (ms : Members) → members_have_float ms ≡ false → members_have_float (with_tags_before tags added taken ms) ≡ false
+before_none tags [] [] ms hm = hm
+before_none tags (t ∷ added) taken ms hm = new_none tags ms hm
+before_none tags [] (t ∷ taken) ms hm = new_none tags ms hm
+
+old_none : (old : Old) (settings : List Setting) (ms : Members) → members_have_float ms ≡ false → members_have_float (with_old_settings old settings ms) ≡ false
+old_none old [] ms hm = hm
+old_none old (s ∷ settings) ms hm =
+    old_none old settings (with_old_value old s.name ms) (put_none s.name (value_data (old_named old s.name)) ms (value_none (old_named old s.name)) hm)
+
+old_description_none : (task : Seen) (said : Said) (ms : Members) → members_have_float ms ≡ false → members_have_float (with_old_description task said ms) ≡ false
+old_description_none task said ms hm = by (bytes_eq said.description [])
+  where
+    by : (b : Bool) → members_have_float (if b then ms else put (codes "description") (string task.description) ms) ≡ false
+    by true = hm
+    by false = put_none (codes "description") (string task.description) ms refl hm
+
+pub back_no_float : (task : Seen) (said : Said) → has_float (back_data task said) ≡ false
+back_no_float task said =
+    old_none task.old said.settings _ (before_none task.tags said.tags said.untagged _ (old_description_none task said no_members refl))

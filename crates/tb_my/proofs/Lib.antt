@@ -1,4 +1,6 @@
+mod Changed
 mod Fields
 mod Floatless
 mod Keys
+mod Loops
 mod Weekdays

@@ -1,7 +1,5 @@
 -- Boards by their numbers or titles, and the line of the settings that names one.
 use Rattle.std.specs.Prelude.{ℕ, Bool, true, false, not, ◌||◌, is_some, List, [], ◌∷◌, ◌++◌, codes, decimal, Option, Some, None, option_and_then, if◌then◌else◌}
-use Rattle.std.specs.Char.{is_ascii_digit}
-use Rattle.std.specs.List.{list_all}
 use Rattle.std.specs.Str.{bytes_eq, trim}
 use Rattle.serde_json.specs.Data.{Data, Items, no_items, item}
 use Rattle.serde_json.specs.Find.{as_array, get}
@@ -9,11 +7,13 @@ use Rattle.serde_json.specs.Read.{read}
 use Rattle.tb_my.specs.Days.{Text}
 use Rattle.tb_my.specs.Settings.{is_note, lines_of, value_of}
 use Rattle.tb_my.specs.Shown.{number_at, text_at}
+use Rattle.tb_values.specs.Numerals.{number_to}
 
 -- ---- the boards that a text names
 
+-- from 1 on; other digits, as 0, are a title
 abbrev pub is_number : Text → Bool
-is_number name = list_all is_ascii_digit name
+is_number name = is_some (number_to 4294967295 name)
 
 abbrev pub is_text : Text → Option Text → Bool
 is_text name None = false

@@ -4,7 +4,10 @@ use Rattle.std.specs.Str.{bytes_eq}
 use Rattle.serde_json.specs.Data.{Data, null, string, object, Members, no_members, put}
 use Rattle.tb_json.specs.Writing.{id_data, texts_data, with_field}
 use Rattle.tb_my.specs.Days.{Text}
+use Rattle.tb_my.specs.Old.{old_named}
 use Rattle.tb_my.specs.Tags.{tags_after}
+use Rattle.tb_my.specs.declared.look.Seen.{Seen}
+use Rattle.tb_my.specs.declared.old.Old.{Old}
 use Rattle.tb_my.specs.declared.part.Setting.{Setting}
 use Rattle.tb_my.specs.declared.said.Said.{Said}
 use Rattle.tb_task.specs.TaskId.{named_id}
@@ -56,6 +59,34 @@ abbrev pub with_changed_tags : List Text → Said → Members → Members
 with_changed_tags tags said members = with_tags_said tags said.tags said.untagged members
 
 -- what words say nothing of stays
-abbrev pub change_data : List Text → Said → Data
-change_data tags said = object (with_settings said.settings
-    (with_changed_tags tags said (with_description said.description no_members)))
+abbrev pub change_data : List Text → Text → Said → Data
+change_data tags description said = object (with_settings said.settings
+    (with_changed_tags tags said (with_description description no_members)))
+
+-- ---- what a task was before
+
+abbrev pub with_old_description : Seen → Said → Members → Members
+with_old_description task said members = if bytes_eq said.description [] then members
+    else put (codes "description") (string task.description) members
+
+abbrev pub with_tags_before : List Text → List Text → List Text → Members → Members
+with_tags_before tags [] [] members = members
+with_tags_before tags (tag ∷ added) taken members = with_new_tags tags members
+with_tags_before tags [] (tag ∷ taken) members = with_new_tags tags members
+
+abbrev pub with_old_tags : Seen → Said → Members → Members
+with_old_tags task said members = with_tags_before task.tags said.tags said.untagged members
+
+abbrev pub with_old_value : Old → Text → Members → Members
+with_old_value old name members = put name (value_data (old_named old name)) members
+
+abbrev pub with_old_settings : Old → List Setting → Members → Members
+with_old_settings old [] members = members
+with_old_settings old (setting ∷ settings) members =
+    with_old_settings old settings (with_old_value old setting.name members)
+
+-- what words changed is as it was
+-- Rule: `tb undo` gives a changed task its old values. Tried by my.sh.
+abbrev pub back_data : Seen → Said → Data
+back_data task said = object (with_old_settings task.old said.settings
+    (with_old_tags task said (with_old_description task said no_members)))

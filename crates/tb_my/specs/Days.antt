@@ -1,7 +1,9 @@
 -- Days and times by their names, from a moment on. A day is counted from 1970-01-01, a Thursday.
-use Rattle.std.specs.Prelude.{◌≡◌, ◌≤◌, ◌<◌, ℕ, ◌+◌, ◌-◌, ◌*◌, ◌/◌, ◌%◌, ◌==◌, ◌||◌, ◌&&◌, nat_le, nat_lt, List, [], ◌∷◌, codes, length, take, drop, Option, Some, None, option_and_then, option_map, unwrap_or, if◌then◌else◌}
-use Rattle.std.specs.Path.{rsplit_once}
-use Rattle.std.specs.Str.{bytes_eq}
+use Rattle.std.specs.Char.{to_ascii_lowercase}
+use Rattle.std.specs.Prelude.{◌≡◌, ◌≤◌, ◌<◌, ℕ, ◌+◌, ◌-◌, ◌*◌, ◌/◌, ◌%◌, ◌==◌, ◌||◌, nat_lt, List, [], ◌∷◌, codes, length, map, take, drop, slice_index, Option, Some, None, option_and_then, option_map, unwrap_or, if◌then◌else◌}
+use Rattle.std.specs.Str.{bytes_eq, trim}
+use Rattle.tb_my.specs.Dates.{month_end, months_later, or_day, short_date}
+use Rattle.tb_my.specs.Digits.{below, two_in}
 use Rattle.tb_my.specs.Zone.{in_time, moment_shown, today}
 use Rattle.tb_my.specs.declared.zone.Clock.{Clock}
 use Rattle.tb_todotxt.specs.Day.{day_of}
@@ -49,61 +51,71 @@ IsNextWeekday = (day weekday : ℕ) → weekday < 7
 
 -- ---- steps
 
--- without the `+` in front
+-- without the `in` or the `+` in front
 abbrev pub unsigned : Text → Text
-unsigned word = unwrap_or (after_key (codes "+") word) word
+unsigned word =
+    unwrap_or (after_key (codes "in ") word) (unwrap_or (after_key (codes "+") word) word)
+
+abbrev pub singular : Text → Text
+singular word = unwrap_or (before_key (codes "s") word) word
 
 -- from 1 to 9999
 abbrev pub count_before : Text → Text → Option ℕ
-count_before word unit = option_and_then (number_to 9999) (before_key unit word)
+count_before word unit =
+    option_and_then (number_to 9999) (option_map trim (before_key unit word))
 
-abbrev pub or_weeks : Option ℕ → Option ℕ → Option ℕ
-or_weeks (Some days) weeks = Some days
-or_weeks None weeks = option_map (λ n. n * 7) weeks
+-- the number before a unit, in short or in full
+abbrev pub counted : Text → Text → Text → Option ℕ
+counted word short unit = or_day (count_before (singular word) unit) (count_before word short)
 
--- so many days, or weeks
-abbrev pub steps_in : Text → Option ℕ
-steps_in word =
-    or_weeks (count_before (unsigned word) (codes "d")) (count_before (unsigned word) (codes "w"))
+-- so many days, weeks or months
+abbrev pub steps_from : ℕ → Text → Option ℕ
+steps_from today word =
+    or_day (option_map (λ days. today + days) (counted word (codes "d") (codes "day")))
+    (or_day (option_map (λ weeks. today + weeks * 7) (counted word (codes "w") (codes "week")))
+    (option_and_then (λ months. months_later today months)
+    (counted word (codes "mo") (codes "month"))))
+
+abbrev pub stepped : ℕ → Text → Option ℕ
+stepped today word = steps_from today (unsigned word)
 
 -- ---- the day that a word names
 
-abbrev pub until_or : ℕ → Option ℕ → Option ℕ → Option ℕ
-until_or day (Some weekday) steps = Some (until_weekday day weekday)
-until_or day None steps = steps
+-- the Sunday of the week of a day
+abbrev pub end_of_week : ℕ → ℕ
+end_of_week today = today + 6 - (today + 3) % 7
 
-abbrev pub days_ahead : ℕ → Text → Option ℕ
-days_ahead day word =
-    if bytes_eq word (codes "today") then Some 0
-    else if bytes_eq word (codes "tomorrow") then Some 1
-    else until_or day (weekday_named word) (steps_in word)
+unfoldable pub day_by_name : ℕ → Text → Option ℕ
+day_by_name today word =
+    if bytes_eq word (codes "today") || bytes_eq word (codes "eod") then Some today
+    else if bytes_eq word (codes "tomorrow") then Some (today + 1)
+    else if bytes_eq word (codes "yesterday") then Some (today - 1)
+    else if bytes_eq word (codes "eow") then Some (end_of_week today)
+    else if bytes_eq word (codes "eom") then month_end today
+    else if bytes_eq word (codes "next week") then Some (today + 7)
+    else if bytes_eq word (codes "next month") then months_later today 1
+    else None
 
--- so many days ahead, or a date as 2026-12-01
-abbrev pub ahead_or_written : ℕ → Option ℕ → Text → Option ℕ
-ahead_or_written day (Some days) word = Some (day + days)
-ahead_or_written day None word = day_of word
+abbrev pub weekday_from : ℕ → Text → Option ℕ
+weekday_from today word =
+    option_map (λ weekday. today + until_weekday today weekday) (weekday_named word)
 
--- a day, from that of a clock
+-- a day by its name, the next of a weekday, so many days, weeks or months, or a date
+abbrev pub day_in : ℕ → Text → Option ℕ
+day_in today word =
+    or_day (day_by_name today word)
+    (or_day (weekday_from today word)
+    (or_day (stepped today word) (or_day (day_of word) (short_date today word))))
+
+abbrev pub small : Text → Text
+small word = map to_ascii_lowercase word
+
+-- Capitals don't count.
+-- Rule: a day by any name is the one that a calendar has. Tried by my.sh.
 abbrev pub day_named : Clock → Text → Option ℕ
-day_named clock word = ahead_or_written (today clock) (days_ahead (today clock) word) word
+day_named clock word = day_in (today clock) (small word)
 
 -- ---- the time behind it
-
-abbrev pub digit_of : ℕ → Option ℕ
-digit_of byte = if nat_le 48 byte && nat_le byte 57 then Some (byte - 48) else None
-
-abbrev pub two_with : Option ℕ → Option ℕ → Option ℕ
-two_with None units = None
-two_with (Some tens) None = None
-two_with (Some tens) (Some units) = Some (tens * 10 + units)
-
--- two digits
-abbrev pub two_in : ℕ → ℕ → Option ℕ
-two_in tens units = two_with (digit_of tens) (digit_of units)
-
-abbrev pub below : ℕ → Option ℕ → Option ℕ
-below limit None = None
-below limit (Some n) = if nat_lt n limit then Some n else None
 
 abbrev pub minutes_with : Option ℕ → Option ℕ → Option ℕ
 minutes_with None minutes = None
@@ -124,18 +136,30 @@ moment_of clock (Some day) (Some minutes) =
     option_and_then (λ second. in_time (moment_shown clock.shifts second))
     (in_time (day * 86400 + minutes * 60))
 
-abbrev pub timed_in : Clock → Option (Text × Text) → Option ℕ
-timed_in clock None = None
-timed_in clock (Some parts) = moment_of clock (day_named clock parts.0) (minutes_in parts.1)
+-- today, a day, or a day and a T
+abbrev pub day_before_time : ℕ → Text → Option ℕ
+day_before_time today front = if bytes_eq front [] then Some today
+    else or_day (day_in today front)
+    (option_and_then (λ day. day_in today day) (before_key (codes "t") front))
 
--- a day and a time, with a T between them
+-- the last five bytes, and what stands before them
+abbrev pub timed_at : Clock → Text → ℕ → Option ℕ
+timed_at clock word start = if nat_lt (slice_index word start) 128
+    then moment_of clock (day_before_time (today clock) (take start word)) (minutes_in (drop start word))
+    else None
+
 abbrev pub timed : Clock → Text → Option ℕ
-timed clock word = timed_in clock (rsplit_once 84 word)
+timed clock word =
+    if nat_lt (length word) 5 then None else timed_at clock word (length word - 5)
 
 abbrev pub begin_or_timed : Clock → Option ℕ → Text → Option ℕ
 begin_or_timed clock (Some day) word = in_time (day * 86400)
 begin_or_timed clock None word = timed clock word
 
--- the first second of a day in UTC, or a time on it
+-- now, the first second of a day in UTC, or a time on it
+abbrev pub moment_in : Clock → Text → Option ℕ
+moment_in clock word = if bytes_eq word (codes "now") then Some clock.moment
+    else begin_or_timed clock (day_in (today clock) word) word
+
 abbrev pub moment_named : Clock → Text → Option ℕ
-moment_named clock word = begin_or_timed clock (day_named clock word) word
+moment_named clock word = moment_in clock (small word)

@@ -1,9 +1,17 @@
+pub mod Adding
 pub mod Boards
 pub mod Body
 pub mod Bringing
+pub mod Calls
+pub mod Changing
+pub mod Dates
 pub mod Days
+pub mod Digits
+pub mod Help
 pub mod Importing
 pub mod Look
+pub mod Named
+pub mod Old
 pub mod Options
 pub mod Outcome
 pub mod Part
@@ -12,6 +20,7 @@ pub mod Said
 pub mod Sent
 pub mod Settings
 pub mod Shown
+pub mod Splitting
 pub mod Tags
 pub mod Telling
 pub mod Undo

@@ -4,44 +4,50 @@ use Rattle.serde_json.specs.Data.{Data, null, boolean, number, string, array, ob
 use Rattle.serde_json.specs.Find.{as_str, get}
 use Rattle.serde_json.specs.Read.{read}
 use Rattle.tb_my.specs.Days.{Text}
+use Rattle.tb_my.specs.Old.{old_of}
 use Rattle.tb_my.specs.declared.look.Seen.{Seen}
 use Rattle.tb_task.specs.TaskId.{read_id}
 use Rattle.tb_values.specs.Numerals.{number_to}
 
 -- ---- the tasks of an export
 
-abbrev pub with_tag : List Text → Option Text → List Text
-with_tag tags None = tags
-with_tag tags (Some tag) = tags ++ tag ∷ []
+abbrev pub with_text : List Text → Option Text → List Text
+with_text texts None = texts
+with_text texts (Some text) = texts ++ text ∷ []
 
-abbrev pub with_tags : List Text → Items → List Text
-with_tags tags no_items = tags
-with_tags tags (item tag more) = with_tags (with_tag tags (as_str tag)) more
+abbrev pub with_texts : List Text → Items → List Text
+with_texts texts no_items = texts
+with_texts texts (item one more) = with_texts (with_text texts (as_str one)) more
 
-abbrev pub tags_of : Data → List Text
-tags_of null = []
-tags_of (boolean b) = []
-tags_of (number n) = []
-tags_of (string s) = []
-tags_of (array them) = with_tags [] them
-tags_of (object them) = []
+abbrev pub texts_of : Data → List Text
+texts_of null = []
+texts_of (boolean b) = []
+texts_of (number n) = []
+texts_of (string s) = []
+texts_of (array them) = with_texts [] them
+texts_of (object them) = []
 
-abbrev pub tags_in : Option Data → List Text
-tags_in None = []
-tags_in (Some tags) = tags_of tags
+abbrev pub texts_in : Option Data → List Text
+texts_in None = []
+texts_in (Some member) = texts_of member
 
-abbrev pub seen_tags : Data → List Text
-seen_tags task = tags_in (get (codes "tags") task)
+abbrev pub seen_texts : Text → Data → List Text
+seen_texts name task = texts_in (get name task)
 
-abbrev pub described : List Text → Option Text → ℕ → Option Seen
-described tags None id = None
-described tags (Some description) id =
-    Some (record { id = id; description = description; tags = tags })
+abbrev pub described : Data → Option Text → ℕ → Option Seen
+described task None id = None
+described task (Some description) id = Some (record {
+  id = id;
+  description = description;
+  tags = seen_texts (codes "tags") task;
+  needs = seen_texts (codes "depends") task;
+  old = old_of task;
+})
 
 abbrev pub seen_task : Data → Option Seen
 seen_task task =
     option_and_then
-    (described (seen_tags task) (option_and_then as_str (get (codes "description") task)))
+    (described task (option_and_then as_str (get (codes "description") task)))
     (option_and_then read_id (option_and_then as_str (get (codes "uuid") task)))
 
 -- the tasks of an array behind those seen

@@ -1,15 +1,16 @@
 -- What is told of the words of `my`.
-use Rattle.std.specs.Prelude.{ℕ, ◌||◌, ◌&&◌, nat_le, ◌++◌, codes, decimal, map, Option, Some, None, option_and_then, if◌then◌else◌}
+use Rattle.std.specs.Prelude.{ℕ, ◌+◌, ◌==◌, ◌||◌, ◌&&◌, nat_le, List, [], ◌∷◌, ◌++◌, codes, decimal, map, Option, Some, None, option_and_then, if◌then◌else◌}
 use Rattle.std.specs.Str.{bytes_eq, chars, encode_utf8_all}
 use Rattle.serde_json.specs.Data.{Data}
 use Rattle.serde_json.specs.Find.{as_str, get}
 use Rattle.serde_json.specs.Read.{read}
-use Rattle.tb_my.specs.Days.{Text}
+use Rattle.tb_my.specs.Days.{Text, after_key}
 use Rattle.tb_my.specs.declared.fault.MyFault.{MyFault}
-use Rattle.tb_my.specs.declared.fault.MyFault.TheVariants.{BadLine, Lacks, Memory, NoBoard, NoDay, NoForm, NoPriority, NoTask, NoWord, TwoBoards, Unfit}
+use Rattle.tb_my.specs.declared.fault.MyFault.TheVariants.{BadLine, Lacks, Linked, Memory, NoAttribute, NoBoard, NoDay, NoFilter, NoForm, NoOption, NoPlace, NoPriority, NoSeconds, NoStep, NoTask, NoWord, OneTask, TwoBoards, Unchanged, Unfit}
+use Rattle.tb_my.specs.declared.look.Seen.{Seen}
 use Rattle.tb_my.specs.declared.settings.SettingName.{SettingName}
 use Rattle.tb_my.specs.declared.settings.SettingName.TheVariants as setting
-use Rattle.tb_my.specs.declared.telling.TheConstants.{BAD_BOARD, BAD_LINE, BAD_NAME, BAD_SERVER, BAD_TASK, BOARD_OR_TASK, CHANGES, CYCLE, FIXED, FULL, LIST_WORDS, NEW_TASK, NOT_ALLOWED, NO_ARGUMENTS, NO_BOARD, NO_BOARD_HERE, NO_CONFIG, NO_DAY, NO_KEY_FILE, NO_LINK, NO_MEMORY, NO_NAME, NO_PRIORITY, NO_ROLE, NO_SERVER, NO_SUCH_TASK, NO_WORD, ONE_BOARD, ONE_FILE, ONE_TASK, TASKS, TASK_AND_TEXT, TWO_BOARDS, TWO_TASKS, UNKNOWN_CALLER, WRONG_STATUS}
+use Rattle.tb_my.specs.declared.telling.TheConstants.{ALREADY, BAD_BOARD, BAD_LINE, BAD_NAME, BAD_SERVER, BAD_TASK, BOARD_OR_TASK, CHANGES, COPY, CYCLE, FIXED, FULL, LIST_WORDS, MORE_TEXT, NEW_TASK, NOT_ALLOWED, NO_ARGUMENTS, NO_ATTRIBUTE, NO_BOARD, NO_BOARD_HERE, NO_CONFIG, NO_DAY, NO_FILTER, NO_KEY_FILE, NO_LINK, NO_MEMORY, NO_NAME, NO_OPTION, NO_PLACE, NO_PRIORITY, NO_ROLE, NO_SECONDS, NO_SERVER, NO_STEP, NO_SUCH_TASK, NO_WORD, ONE_BOARD, ONE_FILE, ONE_TASK, ONE_TEXT, TASKS, TASK_AND_TEXT, TWO_BOARDS, TWO_TASKS, UNCHANGED, UNKNOWN_CALLER, WRONG_STATUS}
 use Rattle.tb_my.specs.declared.word.MyWord.{MyWord}
 use Rattle.tb_my.specs.declared.word.MyWord.TheVariants as word
 
@@ -30,11 +31,29 @@ told_task verb description = verb ++ shown_text description
 abbrev pub told_link : Text → Text → Text → Text
 told_link first verb second = shown_text first ++ (verb ++ shown_text second)
 
+-- the place of a task among others, from 1
+abbrev pub number_of_task : ℕ → ℕ → List Seen → Option ℕ
+number_of_task place id [] = None
+number_of_task place id (task ∷ tasks) =
+    if task.id == id then Some (place + 1) else number_of_task (place + 1) id tasks
+
+abbrev pub numbered : Text → ℕ → Option Text → Text
+numbered told number None = told
+numbered told number (Some rest) = codes "Added " ++ (decimal number ++ rest)
+
+-- by its number, where that is known
+abbrev pub added_text : Text → Option ℕ → Text
+added_text told None = told
+added_text told (Some number) = numbered told number (after_key (codes "Added") told)
+
 -- ---- of words that ask for nothing
 
 -- what belongs behind a word
 abbrev pub form_text : MyWord → Text
 form_text word.List = LIST_WORDS.now
+form_text word.Next = LIST_WORDS.now
+form_text word.Projects = LIST_WORDS.now
+form_text word.Tags = LIST_WORDS.now
 form_text word.Export = NO_ARGUMENTS.now
 form_text word.Todo = NO_ARGUMENTS.now
 form_text word.Undo = NO_ARGUMENTS.now
@@ -47,6 +66,9 @@ form_text word.Show = ONE_TASK.now
 form_text word.Log = BOARD_OR_TASK.now
 form_text word.Add = NEW_TASK.now
 form_text word.Change = CHANGES.now
+form_text word.Append = MORE_TEXT.now
+form_text word.Prepend = MORE_TEXT.now
+form_text word.Copy = COPY.now
 form_text word.Done = TASKS.now
 form_text word.Delete = TASKS.now
 form_text word.Reopen = TASKS.now
@@ -77,10 +99,10 @@ unfit_text setting.KeyFile = NO_KEY_FILE.now
 abbrev pub quoted_text : Text → Text → Text
 quoted_text word wrong = codes "\"" ++ (shown_text word ++ (codes "\"" ++ wrong))
 
-abbrev pub no_task_text : Text → Text → ℕ → Text
-no_task_text word board count =
+abbrev pub no_task_text : Text → Text → ℕ → Text → Text
+no_task_text word board count more =
     codes "There is no task " ++ (shown_text word ++ (codes " on board " ++ (board
-    ++ (codes " (" ++ (decimal count ++ codes " tasks).")))))
+    ++ (codes " (" ++ (decimal count ++ (codes " tasks)." ++ more))))))
 
 -- of a board with so many tasks
 abbrev pub fault_text : Text → ℕ → MyFault → Text
@@ -89,7 +111,16 @@ fault_text board count (NoWord word) = quoted_text word NO_WORD.now
 fault_text board count (NoForm word) = form_text word
 fault_text board count (NoDay word) = quoted_text word NO_DAY.now
 fault_text board count (NoPriority word) = quoted_text word NO_PRIORITY.now
-fault_text board count (NoTask word) = no_task_text word board count
+fault_text board count (NoStep word) = quoted_text word NO_STEP.now
+fault_text board count (NoOption word) = quoted_text word NO_OPTION.now
+fault_text board count (NoAttribute word) = quoted_text word NO_ATTRIBUTE.now
+fault_text board count (NoFilter word) = quoted_text word NO_FILTER.now
+fault_text board count (NoSeconds word) = quoted_text word NO_SECONDS.now
+fault_text board count (NoTask word) = no_task_text word board count []
+fault_text board count (NoPlace word) = no_task_text word board count NO_PLACE.now
+fault_text board count OneTask = ONE_TEXT.now
+fault_text board count (Linked told) = told ++ ALREADY.now
+fault_text board count Unchanged = UNCHANGED.now
 fault_text board count (NoBoard name) = quoted_text name NO_BOARD_HERE.now
 fault_text board count (TwoBoards name) = quoted_text name TWO_BOARDS.now
 fault_text board count (BadLine line) = quoted_text line BAD_LINE.now

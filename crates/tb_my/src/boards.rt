@@ -9,7 +9,7 @@ use crate::shown::{number_at, text_at};
 use serde_json::Value;
 use std::alloc::{AllocError, Global};
 use tb_json::parse;
-use tb_values::{Items, Text};
+use tb_values::{Items, Text, read_number};
 
 /// The numbers of the boards of an answer of `me` that have this number or title.
 pub fn boards_named(alloc: Global, name: &str, body: &str) -> Result<Items<u64>, AllocError>
@@ -79,11 +79,11 @@ fn is_named(alloc: Global, name: &str, number: u64, title: Option<&str>) -> Resu
     Ok(digits.as_str() == name)
 }
 
-/// Whether a text that names a board is its number.
+/// Whether a text that names a board is its number. Other digits, as `0`, are a title.
 pub fn is_number(name: &str) -> bool
     ensures { result ≡ is_digits name.now }
 {
-    name.as_bytes().iter().all(|byte| byte.is_ascii_digit())
+    read_number(name, u32::MAX).is_some()
 }
 
 fn is_text(name: &str, title: Option<&str>) -> bool

@@ -2,8 +2,9 @@
 ghost use Rattle.std.specs.Prelude.{◌≡◌, IfOk, OnOk};
 ghost use Rattle.serde_json.specs.View.{members_view, view};
 ghost use Rattle.serde_json.specs.Written.{compact_text};
-ghost use Rattle.tb_my.specs.Body.{add_data, added_id, change_data, with_changed_tags, with_description, with_new_tags, with_setting, with_settings};
+ghost use Rattle.tb_my.specs.Body.{add_data, added_id, back_data, change_data, with_changed_tags, with_description, with_new_tags, with_old_description, with_old_settings, with_old_tags, with_old_value, with_setting, with_settings};
 
+use crate::look::Seen;
 use crate::part::Setting;
 use crate::said::Said;
 use crate::tags::tags_after;
@@ -38,7 +39,7 @@ fn add_value(alloc: Global, call: &Option<TaskId>, said: &Said) -> Result<Value,
 }
 
 /// The identifier of the task that a call adds: a call that is sent again adds the same one.
-fn added_id(call: &Option<TaskId>) -> Option<TaskId>
+pub(crate) fn added_id(call: &Option<TaskId>) -> Option<TaskId>
     ensures { result ≡ added_id call.now }
 {
     match call {
@@ -47,23 +48,113 @@ fn added_id(call: &Option<TaskId>) -> Option<TaskId>
     }
 }
 
-/// The body that changes a task of these tags to what words say.
-pub(crate) fn change_body(alloc: Global, tags: &[Text], said: &Said) -> Result<Text, AllocError>
-    ensures { IfOk result (λ body. body ≡ compact_text (change_data tags.now said.now)) }
+/// The body that changes a task of these tags to what words say, with this description.
+pub(crate) fn change_body(
+    alloc: Global,
+    tags: &[Text],
+    description: &str,
+    said: &Said,
+) -> Result<Text, AllocError>
+    ensures { IfOk result
+        (λ body. body ≡ compact_text (change_data tags.now description.now said.now)) }
 {
-    let value = change_value(alloc, tags, said)?;
+    let value = change_value(alloc, tags, description, said)?;
     let text = value.to_string(alloc)?;
     Ok(Text::from_string(text))
 }
 
-fn change_value(alloc: Global, tags: &[Text], said: &Said) -> Result<Value, AllocError>
-    ensures { IfOk result (λ value. view value ≡ change_data tags.now said.now) }
+fn change_value(
+    alloc: Global,
+    tags: &[Text],
+    description: &str,
+    said: &Said,
+) -> Result<Value, AllocError>
+    ensures { IfOk result (λ value. view value ≡ change_data tags.now description.now said.now) }
 {
     let mut object = Map::new(alloc);
-    put_description(&mut object, alloc, said.description.as_str())?;
+    put_description(&mut object, alloc, description)?;
     put_changed_tags(&mut object, alloc, tags, said)?;
     put_settings(&mut object, alloc, said.settings.as_slice())?;
     Ok(Value::Object(object))
+}
+
+/// The body that makes a task again what it was before words changed it.
+pub(crate) fn back_body(alloc: Global, task: &Seen, said: &Said) -> Result<Text, AllocError>
+    ensures { IfOk result (λ body. body ≡ compact_text (back_data task.now said.now)) }
+{
+    let value = back_value(alloc, task, said)?;
+    let text = value.to_string(alloc)?;
+    Ok(Text::from_string(text))
+}
+
+fn back_value(alloc: Global, task: &Seen, said: &Said) -> Result<Value, AllocError>
+    ensures { IfOk result (λ value. view value ≡ back_data task.now said.now) }
+{
+    let mut object = Map::new(alloc);
+    put_old_description(&mut object, alloc, task, said)?;
+    put_old_tags(&mut object, alloc, task, said)?;
+    put_old_settings(&mut object, alloc, task, said.settings.as_slice())?;
+    Ok(Value::Object(object))
+}
+
+fn put_old_description(
+    object: &mut Map<String, Value>,
+    alloc: Global,
+    task: &Seen,
+    said: &Said,
+) -> Result<(), AllocError>
+    ensures { OnOk result (members_view object.new.entries
+        ≡ with_old_description task.now said.now (members_view object.old.entries)) }
+{
+    if said.description.is_empty() {
+        return Ok(());
+    }
+    put_text(object, alloc, "description", task.description.as_str())
+}
+
+fn put_old_tags(
+    object: &mut Map<String, Value>,
+    alloc: Global,
+    task: &Seen,
+    said: &Said,
+) -> Result<(), AllocError>
+    ensures { OnOk result (members_view object.new.entries
+        ≡ with_old_tags task.now said.now (members_view object.old.entries)) }
+{
+    if said.tags.is_empty() && said.untagged.is_empty() {
+        return Ok(());
+    }
+    put_new_tags(object, alloc, task.tags.as_slice())
+}
+
+fn put_old_settings(
+    object: &mut Map<String, Value>,
+    alloc: Global,
+    task: &Seen,
+    settings: &[Setting],
+) -> Result<(), AllocError>
+    ensures { OnOk result (members_view object.new.entries
+        ≡ with_old_settings task.now.old settings.now (members_view object.old.entries)) }
+{
+    for setting in settings {
+        put_old_value(object, alloc, task, setting.name.as_str())?;
+    }
+    Ok(())
+}
+
+fn put_old_value(
+    object: &mut Map<String, Value>,
+    alloc: Global,
+    task: &Seen,
+    name: &str,
+) -> Result<(), AllocError>
+    ensures { OnOk result (members_view object.new.entries
+        ≡ with_old_value task.now.old name.now (members_view object.old.entries)) }
+{
+    match task.old.named(name) {
+        Some(value) => put_text(object, alloc, name, value.as_str()),
+        None => put(object, alloc, name, Value::Null),
+    }
 }
 
 /// The description, where words say one.

@@ -2,13 +2,14 @@
 ghost use Rattle.std.specs.Prelude.{◌≡◌, [], IfOk, OnOk, option_copied, option_map};
 ghost use Rattle.serde_json.specs.Read.{read};
 ghost use Rattle.serde_json.specs.View.{items_view, view};
-ghost use Rattle.tb_my.specs.Look.{find_id, seen_in, seen_of, seen_tags, seen_task, tags_of, task_named, with_seen, with_tag, with_tags};
+ghost use Rattle.tb_my.specs.Look.{find_id, seen_in, seen_of, seen_task, seen_texts, task_named, texts_of, with_seen, with_text, with_texts};
 
+use crate::old::{Old, read_old};
 use serde_json::Value;
 use std::alloc::{AllocError, Global};
 use tb_json::parse;
 use tb_task::TaskId;
-use tb_values::{Items, Text, read_number};
+use tb_values::{Duplicate, Items, Text, read_number};
 
 /// A task of a board, as far as the words of `my` have to know it.
 #[derive(Drop)]
@@ -16,6 +17,21 @@ pub struct Seen {
     pub id: TaskId,
     pub description: Text,
     pub tags: Items<Text>,
+    /// The uuids of the tasks on which it depends.
+    pub needs: Items<Text>,
+    pub old: Old,
+}
+
+impl Duplicate for Seen {
+    fn duplicate(&self) -> Result<Seen, AllocError> {
+        Ok(Seen {
+            id: self.id,
+            description: self.description.duplicate()?,
+            tags: self.tags.duplicate()?,
+            needs: self.needs.duplicate()?,
+            old: self.old.duplicate()?,
+        })
+    }
 }
 
 /// The tasks of an export, if it is one, in their order.
@@ -63,45 +79,48 @@ fn seen_task(alloc: Global, value: &Value) -> Result<Option<Seen>, AllocError>
     Ok(Some(Seen {
         id,
         description: Text::from_str(alloc, text)?,
-        tags: seen_tags(alloc, value)?,
+        tags: seen_texts(alloc, value, "tags")?,
+        needs: seen_texts(alloc, value, "depends")?,
+        old: read_old(alloc, value)?,
     }))
 }
 
-fn seen_tags(alloc: Global, value: &Value) -> Result<Items<Text>, AllocError>
-    ensures { IfOk result (λ tags. tags ≡ seen_tags (view value.now)) }
+/// The texts of a member.
+fn seen_texts(alloc: Global, value: &Value, name: &str) -> Result<Items<Text>, AllocError>
+    ensures { IfOk result (λ texts. texts ≡ seen_texts name.now (view value.now)) }
 {
-    match value.get("tags") {
-        Some(tags) => tags_of(alloc, tags),
+    match value.get(name) {
+        Some(member) => texts_of(alloc, member),
         None => Ok(Items::new(alloc)),
     }
 }
 
-fn tags_of(alloc: Global, value: &Value) -> Result<Items<Text>, AllocError>
-    ensures { IfOk result (λ tags. tags ≡ tags_of (view value.now)) }
+fn texts_of(alloc: Global, value: &Value) -> Result<Items<Text>, AllocError>
+    ensures { IfOk result (λ texts. texts ≡ texts_of (view value.now)) }
 {
     match value {
-        Value::Array(list) => texts_of(alloc, list),
+        Value::Array(list) => listed_texts(alloc, list),
         _ => Ok(Items::new(alloc)),
     }
 }
 
 /// The texts of an array. What isn't one is left out.
-fn texts_of(alloc: Global, list: &Vec<Value>) -> Result<Items<Text>, AllocError>
-    ensures { IfOk result (λ texts. texts ≡ with_tags [] (items_view list.now.items)) }
+fn listed_texts(alloc: Global, list: &Vec<Value>) -> Result<Items<Text>, AllocError>
+    ensures { IfOk result (λ texts. texts ≡ with_texts [] (items_view list.now.items)) }
 {
     let mut texts = Items::new(alloc);
     for item in list {
-        push_tag(alloc, &mut texts, item.as_str())?;
+        push_text(alloc, &mut texts, item.as_str())?;
     }
     Ok(texts)
 }
 
-fn push_tag(alloc: Global, tags: &mut Items<Text>, text: Option<&str>) -> Result<(), AllocError>
+fn push_text(alloc: Global, texts: &mut Items<Text>, text: Option<&str>) -> Result<(), AllocError>
     ensures { OnOk result
-        (tags.new ≡ with_tag tags.old (option_map (λ text. text.now) text.entry)) }
+        (texts.new ≡ with_text texts.old (option_map (λ text. text.now) text.entry)) }
 {
     match text {
-        Some(text) => tags.push(Text::from_str(alloc, text)?),
+        Some(text) => texts.push(Text::from_str(alloc, text)?),
         None => Ok(()),
     }
 }

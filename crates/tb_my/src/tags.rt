@@ -33,7 +33,7 @@ fn kept_tags(alloc: Global, tags: &[Text], taken: &[Text]) -> Result<Items<Text>
     Ok(kept)
 }
 
-fn is_among(tag: &Text, tags: &[Text]) -> bool
+pub(crate) fn is_among(tag: &Text, tags: &[Text]) -> bool
     ensures { result ≡ is_among tag.now tags.now }
 {
     for other in tags {

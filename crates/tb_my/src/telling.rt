@@ -1,14 +1,17 @@
 //! What is told of the words of `my`.
 ghost use Rattle.std.specs.Prelude.{◌≡◌, ◌++◌, IfOk, OnOk, option_map};
 ghost use Rattle.std.specs.String.{string_bytes};
-ghost use Rattle.tb_my.specs.Telling.{fault_text, form_text, lacking_text, named_refusal, no_task_text, quoted_text, refusal_text, said_refusal, shown_char, shown_text, told_link, told_task, unfit_text};
+ghost use Rattle.tb_my.specs.Telling.{added_text, fault_text, form_text, lacking_text, named_refusal, no_task_text, number_of_task, quoted_text, refusal_text, said_refusal, shown_char, shown_text, told_link, told_task, unfit_text};
 
+use crate::days::after_key;
 use crate::fault::MyFault;
+use crate::look::Seen;
 use crate::settings::SettingName;
 use crate::word::MyWord;
 use serde_json::Value;
 use std::alloc::{AllocError, Global};
 use tb_json::parse;
+use tb_task::TaskId;
 use tb_values::Text;
 
 const NO_MEMORY: &str = "There was no memory.";
@@ -16,7 +19,29 @@ const NO_MEMORY: &str = "There was no memory.";
 const NO_WORD: &str = " is none of my words. `tb --help` lists them.";
 
 const NO_DAY: &str =
-    " is no day. Write today, tomorrow, a weekday as friday, 3d, 2w, or a date as 2026-12-01.";
+    " is no day. Write today, tomorrow, yesterday, now, a weekday as friday, 3d, 2w, 1mo, eow, eom, \"next week\", or a date as 2026-12-01, 12-24 or 24.12. A time may follow: fri14:00.";
+
+const NO_STEP: &str =
+    " is no step of recurrence. Write daily, weekdays, weekly, monthly, yearly, 3d, 2w or 6mo.";
+
+const NO_OPTION: &str = " is no option of this word. Write -- before a text that begins so.";
+
+const NO_ATTRIBUTE: &str =
+    " is no attribute. Write due:, wait:, scheduled:, until:, pri:, project:, for:, rec:, depends: or tags:, or -- before words that stay as they are.";
+
+const NO_FILTER: &str =
+    " is no filter. Write +PROJECT, @TAG, for:NAME, pri:H, status:WORD, due:DAY or due:before:DAY, not: or - before one, or -- before a text.";
+
+const NO_SECONDS: &str = " is no number of seconds from 1 to 86400.";
+
+const NO_PLACE: &str = " Where it is part of the text, write -- before it.";
+
+const ONE_TEXT: &str =
+    "A new description is for one task. Before one that begins with a number, write --: change 3 -- 4 eggs.";
+
+const ALREADY: &str = " already, so nothing is left to do.";
+
+const UNCHANGED: &str = "Nothing is to be changed: these dependencies are there already.";
 
 const NO_PRIORITY: &str = " is no priority. Write pri:H, pri:M or pri:L, or pri: for none.";
 
@@ -27,6 +52,12 @@ const NO_ARGUMENTS: &str = "This word takes nothing after it. `tb --help` says w
 
 const LIST_WORDS: &str =
     "After `list` belong +PROJECT, @TAG, for:NAME, mine, due:today, due:week, overdue, blocked, waiting, done:week or a text, --sort urgency, due or project, and --json.";
+
+const COPY: &str =
+    "A task belongs after `copy`, and what is to be another in the copy: copy 3 due:friday.";
+
+const MORE_TEXT: &str =
+    "A task and the words that are added belong after this word: append 3 and eggs.";
 
 const ONE_BOARD: &str = "One board belongs after `use`: its number or its title.";
 
@@ -44,7 +75,7 @@ const BOARD_OR_TASK: &str =
     "Nothing belongs after `log`, or one task: its number in the list, or its uuid.";
 
 const TASKS: &str =
-    "Tasks belong after this word, one or more: their numbers in the list, or uuids.";
+    "Tasks belong after this word, one or more: their numbers in the list, as 3, 3-8 or 3,5, or uuids.";
 
 const TASK_AND_TEXT: &str =
     "A task and the words of a note belong after this word: note 3 call after six.";
@@ -167,13 +198,30 @@ pub fn fault_text(
         MyFault::NoForm(word) => Text::from_str(alloc, form_text(*word)),
         MyFault::NoDay(word) => quoted_text(alloc, word.as_str(), NO_DAY),
         MyFault::NoPriority(word) => quoted_text(alloc, word.as_str(), NO_PRIORITY),
-        MyFault::NoTask(word) => no_task_text(alloc, word.as_str(), board, count),
+        MyFault::NoStep(word) => quoted_text(alloc, word.as_str(), NO_STEP),
+        MyFault::NoOption(word) => quoted_text(alloc, word.as_str(), NO_OPTION),
+        MyFault::NoAttribute(word) => quoted_text(alloc, word.as_str(), NO_ATTRIBUTE),
+        MyFault::NoFilter(word) => quoted_text(alloc, word.as_str(), NO_FILTER),
+        MyFault::NoSeconds(word) => quoted_text(alloc, word.as_str(), NO_SECONDS),
+        MyFault::NoTask(word) => no_task_text(alloc, word.as_str(), board, count, ""),
+        MyFault::NoPlace(word) => no_task_text(alloc, word.as_str(), board, count, NO_PLACE),
+        MyFault::OneTask => Text::from_str(alloc, ONE_TEXT),
+        MyFault::Linked(told) => joined_text(alloc, told.as_str(), ALREADY),
+        MyFault::Unchanged => Text::from_str(alloc, UNCHANGED),
         MyFault::NoBoard(name) => quoted_text(alloc, name.as_str(), NO_BOARD_HERE),
         MyFault::TwoBoards(name) => quoted_text(alloc, name.as_str(), TWO_BOARDS),
         MyFault::BadLine(line) => quoted_text(alloc, line.as_str(), BAD_LINE),
         MyFault::Lacks(name) => Text::from_str(alloc, lacking_text(*name)),
         MyFault::Unfit(name) => Text::from_str(alloc, unfit_text(*name)),
     }
+}
+
+fn joined_text(alloc: Global, text: &str, more: &str) -> Result<Text, AllocError>
+    ensures { IfOk result (λ joined. joined ≡ text.now ++ more.now) }
+{
+    let mut joined = Text::from_str(alloc, text)?;
+    joined.push_str(more)?;
+    Ok(joined)
 }
 
 /// A word between quotes, and what is wrong of it.
@@ -187,13 +235,44 @@ fn quoted_text(alloc: Global, word: &str, wrong: &str) -> Result<Text, AllocErro
     Ok(Text::from_string(text))
 }
 
-fn no_task_text(alloc: Global, word: &str, board: &str, count: usize) -> Result<Text, AllocError>
-    ensures { IfOk result (λ text. text ≡ no_task_text word.now board.now count) }
+fn no_task_text(
+    alloc: Global,
+    word: &str,
+    board: &str,
+    count: usize,
+    more: &str,
+) -> Result<Text, AllocError>
+    ensures { IfOk result (λ text. text ≡ no_task_text word.now board.now count more.now) }
 {
     let mut text = String::from_str(alloc, "There is no task ")?;
     push_shown(&mut text, word)?;
-    write!(text, " on board {board} ({count} tasks).")?;
+    write!(text, " on board {board} ({count} tasks).{more}")?;
     Ok(Text::from_string(text))
+}
+
+/// What is told of an added task by its number, where that is known.
+pub fn added_text(alloc: Global, told: &str, number: Option<usize>) -> Result<Text, AllocError>
+    ensures { IfOk result (λ text. text ≡ added_text told.now number) }
+{
+    let Some(number) = number else {
+        return Text::from_str(alloc, told);
+    };
+    match after_key(told, "Added") {
+        Some(rest) => Ok(Text::from_string(format!(in alloc; "Added {number}{rest}")?)),
+        None => Text::from_str(alloc, told),
+    }
+}
+
+/// The place of a task among others, from 1.
+pub fn number_of_task(tasks: &[Seen], id: TaskId) -> Option<usize>
+    ensures { result ≡ number_of_task 0 id tasks.now }
+{
+    for (index, task) in tasks.iter().enumerate() {
+        if task.id == id {
+            return Some(index + 1);
+        }
+    }
+    None
 }
 
 /// What belongs behind a word.
@@ -201,7 +280,7 @@ fn form_text(word: MyWord) -> &'static str
     ensures { result.now ≡ form_text word }
 {
     match word {
-        MyWord::List => LIST_WORDS,
+        MyWord::List | MyWord::Next | MyWord::Projects | MyWord::Tags => LIST_WORDS,
         MyWord::Boards
         | MyWord::People
         | MyWord::Export
@@ -214,6 +293,8 @@ fn form_text(word: MyWord) -> &'static str
         MyWord::Log => BOARD_OR_TASK,
         MyWord::Add => NEW_TASK,
         MyWord::Change => CHANGES,
+        MyWord::Append | MyWord::Prepend => MORE_TEXT,
+        MyWord::Copy => COPY,
         MyWord::Done | MyWord::Delete | MyWord::Reopen | MyWord::Start | MyWord::Stop => TASKS,
         MyWord::Note | MyWord::Unnote => TASK_AND_TEXT,
         MyWord::Needs | MyWord::Free => TWO_TASKS,

@@ -1,10 +1,10 @@
 //! What takes back the calls of a command, and how it is kept.
 ghost use Rattle.std.specs.List.{slice_split};
-ghost use Rattle.std.specs.Prelude.{◌≡◌, ◌++◌, ◌∷◌, [], IfOk, OnOk, chars, false, map, option_map, string_bytes};
+ghost use Rattle.std.specs.Prelude.{◌≡◌, ◌++◌, ◌∷◌, [], IfOk, OnOk, chars, false, map, string_bytes};
 ghost use Rattle.std.specs.Str.{encode_utf8_all};
-ghost use Rattle.tb_my.specs.Undo.{fields_of, is_control, kept_char, kept_chars, kept_of, kept_sent, kept_with, kept_word, opened_char, opened_chars, opened_word, opposite_word, tabbed, tabbed_after, taken_back, undo_head, undone_after, undone_from, undone_in, undone_of};
+ghost use Rattle.tb_my.specs.Undo.{after_entry, ended, fields_of, is_control, is_empty, is_end, kept_before, kept_char, kept_chars, kept_entries, kept_line, kept_over, kept_rest, kept_sent, kept_word, left_after, lost_from, lost_in, lost_of, opened_char, opened_chars, opened_word, own_lines, tabbed, tabbed_after, taken_back, undo_head, undone_from, undone_in, undone_of};
 
-use crate::sent::Sent;
+use crate::sent::{Sent, call_sent};
 use crate::settings::lines_of;
 use std::alloc::{AllocError, Global};
 use tb_values::{Items, Text};
@@ -14,6 +14,9 @@ const MARK: char = '\u{1}';
 
 /// How far that is behind the control character.
 const CONTROLS: u8 = 64;
+
+/// How many commands are kept beside the last one.
+const MOST_KEPT: u32 = 49;
 
 /// Who asked which server, as it stands before what takes back their calls.
 pub fn undo_head(alloc: Global, server: &str, name: &str) -> Result<Text, AllocError>
@@ -26,29 +29,114 @@ pub fn undo_head(alloc: Global, server: &str, name: &str) -> Result<Text, AllocE
     Ok(Text::from_string(text))
 }
 
-/// What takes back a call that was accepted, on a line: nothing where no call does.
+/// What is told of an accepted call, and what takes it back, on a line: nothing of a view.
 pub fn kept_sent(alloc: Global, sent: &Sent) -> Result<Text, AllocError>
     ensures { IfOk result (λ text. text ≡ kept_sent sent.now) }
 {
-    match sent.words.as_slice().split_first() {
-        Some((word, words)) => kept_of(alloc, sent.told.as_str(), word.as_str(), words),
-        None => Ok(Text::new(alloc)),
+    kept_line(alloc, sent.told.as_str(), sent.back.as_slice())
+}
+
+fn kept_line(alloc: Global, told: &str, back: &[Text]) -> Result<Text, AllocError>
+    ensures { IfOk result (λ text. text ≡ kept_line told.now back.now) }
+{
+    if told.is_empty() {
+        return Ok(Text::new(alloc));
+    }
+    let mut text = String::from_str(alloc, told)?;
+    push_tabbed(alloc, &mut text, back)?;
+    text.push('\n')?;
+    Ok(Text::from_string(text))
+}
+
+/// The lines of a command, and after them what was kept of the commands before it.
+pub fn kept_over(alloc: Global, command: &Text, before: &Text) -> Result<Text, AllocError>
+    ensures { IfOk result (λ text. text ≡ kept_over command.now before.now) }
+{
+    let mut text = Text::from_str(alloc, command.as_str())?;
+    text.push_str("\n")?;
+    text.push_str(before.as_str())?;
+    Ok(text)
+}
+
+/// What was kept, as far as it is kept on beside another command.
+pub fn kept_before(alloc: Global, kept: &str) -> Result<Text, AllocError>
+    ensures { IfOk result (λ text. text ≡ kept_before kept.now) }
+{
+    let lines = lines_of(alloc, kept)?;
+    Ok(Text::from_string(kept_entries(alloc, lines.as_slice())?))
+}
+
+/// What was kept before the last command.
+pub fn kept_rest(alloc: Global, kept: &str) -> Result<Text, AllocError>
+    ensures { IfOk result (λ text. text ≡ kept_rest kept.now) }
+{
+    let lines = lines_of(alloc, kept)?;
+    Ok(Text::from_string(kept_entries(alloc, after_entry(lines.as_slice()))?))
+}
+
+/// The lines after the first empty one.
+fn after_entry<'l, 't>(lines: &'l [&'t str]) -> &'l [&'t str]
+    ensures { map (λ line. line.now) result.now
+        ≡ after_entry (map (λ line. line.now) lines.entry.now) }
+{
+    for (index, line) in lines.iter().enumerate() {
+        if is_empty(line) {
+            return &lines[index + 1..];
+        }
+    }
+    &[]
+}
+
+/// The lines of so many commands, each with an empty one after it.
+fn kept_entries(alloc: Global, lines: &[&str]) -> Result<String, AllocError>
+    ensures { IfOk result (λ text. string_bytes text
+        ≡ kept_entries 49 false (map (λ line. line.now) lines.entry.now)) }
+{
+    let mut text = String::new(alloc);
+    let mut left = MOST_KEPT;
+    let mut is_begun = false;
+    for line in lines {
+        if is_end(left, is_begun, line) {
+            return Ok(text);
+        }
+        push_ended(&mut text, line)?;
+        left = left_after(left, line);
+        is_begun = !is_empty(line);
+    }
+    Ok(text)
+}
+
+/// Whether so many commands are over, or a line has none before it that it would end.
+fn is_end(left: u32, is_begun: bool, line: &str) -> bool
+    ensures { result ≡ is_end left is_begun line.now }
+{
+    left == 0 || (is_empty(line) && !is_begun)
+}
+
+fn is_empty(line: &str) -> bool
+    ensures { result ≡ is_empty line.now }
+{
+    match line.as_bytes() {
+        [_first, ..] => false,
+        [] => true,
     }
 }
 
-fn kept_of(alloc: Global, told: &str, word: &str, words: &[Text]) -> Result<Text, AllocError>
-    ensures { IfOk result (λ text. text
-        ≡ kept_with told.now (opposite_word word.now) words.now) }
+fn left_after(left: u32, line: &str) -> u32
+    ensures { result ≡ left_after left line.now }
 {
-    let Some(word) = opposite_word(word) else {
-        return Ok(Text::new(alloc));
-    };
-    let mut text = String::from_str(alloc, told)?;
-    text.push('\t')?;
-    text.push_str(word)?;
-    push_tabbed(alloc, &mut text, words)?;
-    text.push('\n')?;
-    Ok(Text::from_string(text))
+    if is_empty(line) {
+        left.saturating_sub(1)
+    } else {
+        left
+    }
+}
+
+fn push_ended(text: &mut String, line: &str) -> Result<(), AllocError>
+    ensures { OnOk result (string_bytes text.new ≡ string_bytes text.old ++ ended line.now) }
+{
+    text.push_str(line)?;
+    text.push('\n')
 }
 
 fn push_tabbed(alloc: Global, text: &mut String, words: &[Text]) -> Result<(), AllocError>
@@ -106,25 +194,7 @@ fn is_control(character: char) -> bool
     character < ' '
 }
 
-/// The word of the call that takes back one of this word.
-#[tactic(auto, unfolding(crate::specs::Undo::opposite_word))]
-fn opposite_word(word: &str) -> Option<&'static str>
-    ensures { option_map (λ text. text.now) result ≡ opposite_word word.now }
-{
-    match word {
-        "done" => Some("reopen"),
-        "delete" => Some("reopen"),
-        "start" => Some("stop"),
-        "stop" => Some("start"),
-        "annotate" => Some("denotate"),
-        "denotate" => Some("annotate"),
-        "depend" => Some("undepend"),
-        "undepend" => Some("depend"),
-        _ => None,
-    }
-}
-
-/// The calls that take back what this person asked this server for last.
+/// The calls that take back the last command, if this person asked this server for it.
 pub fn undone_in(
     alloc: Global,
     server: &str,
@@ -133,35 +203,94 @@ pub fn undone_in(
 ) -> Result<Items<Sent>, AllocError>
     ensures { IfOk result (λ sent. sent ≡ undone_in server.now name.now kept.now) }
 {
-    let head = undo_head(alloc, server, name)?;
     let lines = lines_of(alloc, kept)?;
-    undone_after(alloc, head.as_str(), lines.as_slice())
+    let head = undo_head(alloc, server, name)?;
+    undone_from(alloc, own_lines(alloc, head.as_str(), lines.as_slice())?)
 }
 
-fn undone_after(alloc: Global, head: &str, lines: &[&str]) -> Result<Items<Sent>, AllocError>
-    ensures { IfOk result (λ sent. sent
-        ≡ undone_after head.now (map (λ line. line.now) lines.entry.now)) }
+/// What is told of the calls of that command that nothing takes back.
+pub fn lost_in(
+    alloc: Global,
+    server: &str,
+    name: &str,
+    kept: &str,
+) -> Result<Items<Text>, AllocError>
+    ensures { IfOk result (λ told. told ≡ lost_in server.now name.now kept.now) }
+{
+    let lines = lines_of(alloc, kept)?;
+    let head = undo_head(alloc, server, name)?;
+    lost_from(alloc, own_lines(alloc, head.as_str(), lines.as_slice())?)
+}
+
+/// The lines after this first one: none after another.
+fn own_lines<'l, 't>(
+    alloc: Global,
+    head: &str,
+    lines: &'l [&'t str],
+) -> Result<&'l [&'t str], AllocError>
+    ensures { IfOk result (λ own. map (λ line. line.now) own.now
+        ≡ own_lines head.now (map (λ line. line.now) lines.entry.now)) }
 {
     let Some((first, rest)) = lines.split_first() else {
-        return Ok(Items::new(alloc));
+        return Ok(lines);
     };
     let mut line = String::from_str(alloc, first)?;
     line.push('\n')?;
-    if line.as_str() != head {
-        return Ok(Items::new(alloc));
+    if line.as_str() == head {
+        Ok(rest)
+    } else {
+        Ok(&rest[..0])
     }
-    undone_from(alloc, rest)
 }
 
+/// The calls of the lines up to an empty one.
 fn undone_from(alloc: Global, lines: &[&str]) -> Result<Items<Sent>, AllocError>
     ensures { IfOk result (λ sent. sent
         ≡ undone_from (map (λ line. line.now) lines.entry.now)) }
 {
     let mut sent = Items::new(alloc);
     for line in lines {
+        if is_empty(line) {
+            return Ok(sent);
+        }
         push_undone(alloc, &mut sent, line)?;
     }
     Ok(sent)
+}
+
+fn lost_from(alloc: Global, lines: &[&str]) -> Result<Items<Text>, AllocError>
+    ensures { IfOk result (λ lost. lost
+        ≡ lost_from (map (λ line. line.now) lines.entry.now)) }
+{
+    let mut lost = Items::new(alloc);
+    for line in lines {
+        if is_empty(line) {
+            return Ok(lost);
+        }
+        push_lost(alloc, &mut lost, line)?;
+    }
+    Ok(lost)
+}
+
+fn push_lost(alloc: Global, lost: &mut Items<Text>, line: &str) -> Result<(), AllocError>
+    ensures { OnOk result (lost.new ≡ lost.old ++ lost_of (fields_of line.now)) }
+{
+    let fields = fields_of(alloc, line)?;
+    push_lost_fields(alloc, lost, fields.as_slice())
+}
+
+fn push_lost_fields(
+    alloc: Global,
+    lost: &mut Items<Text>,
+    fields: &[&str],
+) -> Result<(), AllocError>
+    ensures { OnOk result (lost.new
+        ≡ lost.old ++ lost_of (map (λ field. field.now) fields.entry.now)) }
+{
+    let [told] = fields else {
+        return Ok(());
+    };
+    lost.push(Text::from_str(alloc, told)?)
 }
 
 fn push_undone(alloc: Global, sent: &mut Items<Sent>, line: &str) -> Result<(), AllocError>
@@ -192,11 +321,7 @@ fn taken_back(alloc: Global, told: &str, words: &[&str]) -> Result<Sent, AllocEr
     let words = words_of(alloc, words)?;
     let mut text = Text::from_str(alloc, "Taken back: ")?;
     text.push_str(told)?;
-    Ok(Sent {
-        words,
-        told: text,
-        call: None,
-    })
+    Ok(call_sent(words, text, Items::new(alloc)))
 }
 
 fn fields_of(alloc: Global, line: &str) -> Result<Vec<&str>, AllocError>

@@ -6,6 +6,9 @@ ghost use Rattle.tb_my.specs.Word.{is_of_task, my_word_named};
 #[derive(Clone, Copy, Debug, PartialEq, Eq)]
 pub enum MyWord {
     List,
+    Next,
+    Projects,
+    Tags,
     Boards,
     People,
     Export,
@@ -18,6 +21,9 @@ pub enum MyWord {
     Log,
     Add,
     Change,
+    Append,
+    Prepend,
+    Copy,
     Done,
     Delete,
     Reopen,
@@ -36,7 +42,10 @@ impl MyWord {
         ensures { result ≡ my_word_named name.now }
     {
         let word = match name {
-            "list" => MyWord::List,
+            "list" | "ls" => MyWord::List,
+            "next" => MyWord::Next,
+            "projects" => MyWord::Projects,
+            "tags" => MyWord::Tags,
             "boards" => MyWord::Boards,
             "people" => MyWord::People,
             "export" => MyWord::Export,
@@ -48,7 +57,10 @@ impl MyWord {
             "show" => MyWord::Show,
             "log" => MyWord::Log,
             "add" => MyWord::Add,
-            "change" => MyWord::Change,
+            "change" | "modify" => MyWord::Change,
+            "append" => MyWord::Append,
+            "prepend" => MyWord::Prepend,
+            "copy" => MyWord::Copy,
             "done" => MyWord::Done,
             "delete" => MyWord::Delete,
             "reopen" => MyWord::Reopen,
@@ -69,6 +81,9 @@ impl MyWord {
     {
         match self {
             MyWord::List
+            | MyWord::Next
+            | MyWord::Projects
+            | MyWord::Tags
             | MyWord::Boards
             | MyWord::People
             | MyWord::Export
@@ -81,6 +96,9 @@ impl MyWord {
             MyWord::Show
             | MyWord::Log
             | MyWord::Change
+            | MyWord::Append
+            | MyWord::Prepend
+            | MyWord::Copy
             | MyWord::Done
             | MyWord::Delete
             | MyWord::Reopen

@@ -11,4 +11,5 @@ returns-clause-asked g c =
     let asked : Asked = asked_of (import_words c.args.is_json c.args.board.now c.args.part.now) None answer in
     let first : g.A.Asks.follows (asked ∷ []) c.args.asks.now c.ask.new.self = search rules in
     let told : Appends (g.W.Write.contents c.args.writer.now) (g.W.Write.contents c.print_line.new.writer) (import_told answer.body ++ 10 ∷ []) = search rules in
-    (asked, first, (refl, refl), sym accepted, rw accepted told)
+    let kept : g.A.Asks.follows [] c.ask.new.self c.keep.new.self = search rules in
+    (asked, g.A.Asks.joined (asked ∷ []) [] c.args.asks.now c.ask.new.self c.keep.new.self first kept, (refl, refl), sym accepted, rw accepted told)

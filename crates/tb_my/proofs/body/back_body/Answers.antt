@@ -1,0 +1,9 @@
+use Rattle.std.proofs.Common.{ap, ◌∙◌}
+use Rattle.serde_json.specs.Written.{compact_text}
+use Rattle.tb_my.proofs.Floatless.{back_no_float}
+use Rattle.tb_my.proofs.body.back_body.Goals as goal
+
+pub returns : goal.returns
+returns c =
+    let is = c.in_ok-value.ensures in
+    c.from_string.ensures ∙ c.in_ok-text.ensures.text (rw is (back_no_float c.args.task.now c.args.said.now)) ∙ ap compact_text is

@@ -1,7 +1,0 @@
-use Rattle.std.proofs.Common.{◌≡◌, [], drop}
-use Rattle.serde_json.specs.View.{items_view}
-use Rattle.tb_my.specs.Look.{with_tags}
-use Rattle.tb_my.proofs.look.texts_of.Given as goal
-
-abbrev pub invariant-loop-item : goal.invariant-loop-item
-invariant-loop-item l = with_tags l.texts (items_view (drop l.item-index l.list.items)) ≡ with_tags [] (items_view l.list.items)
