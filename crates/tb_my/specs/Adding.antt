@@ -3,7 +3,7 @@ use Rattle.std.specs.Prelude.{ℕ, false, List, [], ◌∷◌, ◌++◌, codes, 
 use Rattle.std.specs.Str.{bytes_eq}
 use Rattle.serde_json.specs.Written.{compact_text}
 use Rattle.tb_my.specs.Body.{add_data, added_id}
-use Rattle.tb_my.specs.Days.{Text, after_key}
+use Rattle.tb_my.specs.Days.{Text}
 use Rattle.tb_my.specs.Look.{task_named}
 use Rattle.tb_my.specs.Named.{tasks_named, unnamed}
 use Rattle.tb_my.specs.Old.{copied_settings}

@@ -1,5 +1,5 @@
 -- Calls, and what takes them back.
-use Rattle.std.specs.Prelude.{ℕ, false, Bool, List, [], ◌∷◌, codes, Option, Some, None, if◌then◌else◌}
+use Rattle.std.specs.Prelude.{false, Bool, List, [], ◌∷◌, codes, Option, Some, None, if◌then◌else◌}
 use Rattle.std.specs.Str.{bytes_eq}
 use Rattle.tb_my.specs.Days.{Text}
 use Rattle.tb_my.specs.Tags.{is_among}

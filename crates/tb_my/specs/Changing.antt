@@ -1,6 +1,5 @@
 -- What `change`, `append` and `prepend` ask a server for.
-use Rattle.std.specs.Prelude.{ℕ, ◌||◌, ◌&&◌, not, nat_lt, Bool, true, false, List, [], ◌∷◌, ◌++◌, codes, length, take, drop, Result, Ok, Err, if◌then◌else◌}
-use Rattle.std.specs.Str.{bytes_eq}
+use Rattle.std.specs.Prelude.{◌&&◌, not, nat_lt, Bool, true, false, List, [], ◌∷◌, ◌++◌, codes, length, take, drop, Result, Ok, Err, if◌then◌else◌}
 use Rattle.serde_json.specs.Written.{compact_text}
 use Rattle.tb_my.specs.Body.{back_data, change_data}
 use Rattle.tb_my.specs.Calls.{call_sent, is_linked, link_sent}

@@ -1,6 +1,6 @@
 -- Days and times by their names, from a moment on. A day is counted from 1970-01-01, a Thursday.
 use Rattle.std.specs.Char.{to_ascii_lowercase}
-use Rattle.std.specs.Prelude.{◌≡◌, ◌≤◌, ◌<◌, ℕ, ◌+◌, ◌-◌, ◌*◌, ◌/◌, ◌%◌, ◌==◌, ◌||◌, nat_lt, List, [], ◌∷◌, codes, length, map, take, drop, slice_index, Option, Some, None, option_and_then, option_map, unwrap_or, if◌then◌else◌}
+use Rattle.std.specs.Prelude.{◌≡◌, ◌≤◌, ◌<◌, ℕ, ◌+◌, ◌-◌, ◌*◌, ◌%◌, ◌==◌, ◌||◌, nat_lt, List, [], ◌∷◌, codes, length, map, take, drop, slice_index, Option, Some, None, option_and_then, option_map, unwrap_or, if◌then◌else◌}
 use Rattle.std.specs.Str.{bytes_eq, trim}
 use Rattle.tb_my.specs.Dates.{month_end, months_later, or_day, short_date}
 use Rattle.tb_my.specs.Digits.{below, two_in}

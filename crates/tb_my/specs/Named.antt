@@ -1,5 +1,5 @@
 -- The tasks that words name: by places, counted from 1, by ranges of them, and by uuids.
-use Rattle.std.specs.Prelude.{ℕ, ◌+◌, ◌-◌, Bool, true, false, ◌&&◌, ◌||◌, nat_lt, is_some, List, [], ◌∷◌, ◌++◌, codes, length, take, drop, Option, Some, None, option_and_then, Result, Ok, Err, if◌then◌else◌}
+use Rattle.std.specs.Prelude.{ℕ, ◌+◌, ◌-◌, Bool, true, false, ◌&&◌, ◌||◌, nat_lt, is_some, List, [], ◌∷◌, ◌++◌, codes, length, take, drop, Option, Some, None, Result, Ok, Err, if◌then◌else◌}
 use Rattle.std.specs.Path.{rsplit_once}
 use Rattle.tb_my.specs.Days.{Text, after_key}
 use Rattle.tb_my.specs.Look.{task_named}

@@ -1,5 +1,5 @@
 -- Answers of views in lines for people.
-use Rattle.std.specs.Prelude.{ℕ, ◌++◌, List, [], ◌∷◌, codes, decimal, Option, Some, None, option_and_then, option_map}
+use Rattle.std.specs.Prelude.{ℕ, ◌++◌, [], ◌∷◌, codes, decimal, Option, Some, None, option_and_then, option_map}
 use Rattle.serde_json.specs.Data.{Data, Items, no_items, item}
 use Rattle.serde_json.specs.Find.{as_array, as_number, as_str, as_u64, get}
 use Rattle.serde_json.specs.Read.{read}

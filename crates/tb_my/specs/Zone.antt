@@ -1,5 +1,5 @@
 -- What clocks show, by how far they are ahead of UTC. A day is counted from 1970-01-01.
-use Rattle.std.specs.Prelude.{ℕ, ◌+◌, ◌-◌, ◌*◌, ◌/◌, ◌%◌, ◌==◌, Bool, not, ◌&&◌, nat_le, List, [], ◌∷◌, Option, Some, None, if◌then◌else◌}
+use Rattle.std.specs.Prelude.{ℕ, ◌+◌, ◌-◌, ◌/◌, ◌%◌, ◌==◌, Bool, not, ◌&&◌, nat_le, List, [], ◌∷◌, Option, Some, None, if◌then◌else◌}
 use Rattle.tb_my.specs.declared.zone.Clock.{Clock}
 use Rattle.tb_my.specs.declared.zone.Shift.{Shift}
 
