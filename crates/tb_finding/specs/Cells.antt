@@ -1,7 +1,6 @@
 -- What a line of the list shows of a task.
 use Rattle.std.specs.Prelude.{ℕ, ◌+◌, Bool, true, false, is_some, List, [], ◌∷◌, ◌++◌, codes, decimal, Option, Some, None, if◌then◌else◌}
 use Rattle.tb_finding.specs.Board.{Text}
-use Rattle.tb_finding.specs.Order.{Key}
 use Rattle.tb_finding.specs.Table.{fitted}
 use Rattle.tb_finding.specs.Tests.{assignee, is_overdue, letter_of}
 use Rattle.tb_finding.specs.Words.{moment_word}

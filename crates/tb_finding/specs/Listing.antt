@@ -1,5 +1,5 @@
 -- The list of the found tasks of a board.
-use Rattle.std.specs.Prelude.{ℕ, Bool, ◌==◌, List, [], ◌∷◌, ◌++◌, codes, decimal, length, slice_get, Option, Some, None, option_map, if◌then◌else◌}
+use Rattle.std.specs.Prelude.{ℕ, List, [], ◌∷◌, ◌++◌, codes, decimal, length, slice_get, Option, Some, None, option_map, if◌then◌else◌}
 use Rattle.tb_finding.specs.Board.{Text, look_of, tasks_in}
 use Rattle.tb_finding.specs.Cells.{cells_of}
 use Rattle.tb_finding.specs.Json.{json_list}

@@ -1,5 +1,5 @@
 -- Lines of columns that are as wide as what stands in them, for a terminal or a pipe. Widths are those of a terminal's columns.
-use Rattle.std.specs.Prelude.{ℕ, ◌+◌, ◌-◌, ◌==◌, Bool, true, false, max, nat_le, List, [], ◌∷◌, ◌++◌, codes, replicate, Option, Some, None, unwrap_or, if◌then◌else◌}
+use Rattle.std.specs.Prelude.{ℕ, ◌-◌, ◌==◌, Bool, true, false, max, nat_le, List, [], ◌∷◌, ◌++◌, codes, replicate, Option, Some, None, unwrap_or, if◌then◌else◌}
 use Rattle.std.specs.Str.{chars, encode_utf8_all}
 use Rattle.tb_finding.specs.Board.{Text}
 use Rattle.tb_finding.specs.declared.table.Cells.{Cells}

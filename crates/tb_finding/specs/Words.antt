@@ -1,5 +1,5 @@
 -- Days and times in words.
-use Rattle.std.specs.Prelude.{ℕ, ◌+◌, ◌*◌, ◌/◌, ◌%◌, ◌==◌, ◌&&◌, nat_lt, List, [], ◌∷◌, ◌++◌, codes, Option, Some, None, if◌then◌else◌}
+use Rattle.std.specs.Prelude.{ℕ, ◌+◌, ◌*◌, ◌/◌, ◌%◌, ◌==◌, ◌&&◌, nat_lt, [], ◌∷◌, ◌++◌, codes, Option, Some, None, if◌then◌else◌}
 use Rattle.tb_finding.specs.Board.{Text}
 use Rattle.tb_my.specs.Days.{weekday_of}
 use Rattle.tb_my.specs.Zone.{day_at, in_time, is_timed, minute_at, today}
