@@ -1,3 +1,3 @@
-mod Adding
 mod Following
 mod Imports
+mod Numbered

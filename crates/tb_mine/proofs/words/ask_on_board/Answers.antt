@@ -26,15 +26,16 @@ returns-in-Some-clause-asked g c =
 pub returns-in-None-clause-asked : goal.returns-in-None-clause-asked
 returns-in-None-clause-asked g c =
     let follows = g.A.Asks.follows in
-    let look : (look : List Asked) × follows look c.args.asks.now c.find_board.new.asks × IsFound c.args.context.board look None = search rules in (
-      look.0 ++ [],
+    let look : (look : List Asked) × follows look c.args.asks.now c.find_board.new.asks × IsFound c.args.context.board look None = search rules in
+    let all = look.0 ++ [] in (
+      all,
       g.A.Asks.joined look.0 [] c.args.asks.now c.find_board.new.asks c.find_board.new.asks look.1 (g.A.Asks.unchanged c.find_board.new.asks),
       record {
         look = look.0;
         board = None;
         found = look.2;
         more = [];
-        first = refl;
+        first = refl {a = all};
         done = (refl, refl, refl);
       },
     )
