@@ -1,7 +1,7 @@
 -- What `?` hands on, what is said of a fault in several clauses, and the end of an order of whose fault nothing more is told.
-use Rattle.std.proofs.Common.{◌≡◌, Result, Ok, Err, IfErr, IfOk, inl, inr, refl, subst, sym}
+use Rattle.std.proofs.Common.{◌≡◌, Result, Ok, Err, IfErr, IfOk, refl, subst, sym}
 use Rattle.std.proofs.lemmas.Result.{IfErr-at_err, IfOk-at_ok}
-use Rattle.std.specs.Prelude.{◌⊎◌, IsErrAnd, OnErr}
+use Rattle.std.specs.Prelude.{IsErrAnd, OnErr}
 use Rattle.taskboard.specs.Orders.{IsNamed}
 use Rattle.tb_command_line.specs.declared.order.Order.{Order}
 use Rattle.tb_command_line.specs.declared.order.Order.TheVariants.{Init, Serve, Run, Import, ImportAll, Clean, View, Check, Key, Send, My, Help, Version}
@@ -44,10 +44,6 @@ both (Err e) P Q first second = (first, second)
 pub all_three : {A E : Type 0} (r : Result A E) (P Q R : E → Type 0) → IfErr r P → IfErr r Q → IfErr r R → IfErr r (λ e. P e × Q e × R e)
 all_three (Ok x) P Q R first second third = tt
 all_three (Err e) P Q R first second third = (first, second, third)
-
-pub cut_over : {P Q R : Type 0} → P ⊎ Q → (P → R) → R ⊎ Q
-cut_over (inl is) more = inl (more is)
-cut_over (inr is) more = inr is
 
 pub named_same : (order : Order) → IsNamed order order
 named_same (Init order) = refl

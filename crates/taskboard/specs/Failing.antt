@@ -5,7 +5,6 @@ use Rattle.sqlite_disk.specs.declared.Disk.{Ghosts as DiskGhosts}
 use Rattle.sqlite_store.specs.declared.store.FileStore.{FileStore}
 use Rattle.sqlite_wal.specs.Recovery.{Image}
 use Rattle.taskboard.specs.Orders.{is_skip, script_text}
-use Rattle.taskboard.specs.Sent.{IsUnsentOver}
 use Rattle.taskboard.specs.Serve.{IsServerFailed}
 use Rattle.taskboard.specs.declared.TheConstants.{VERSION}
 use Rattle.tb_calls.specs.Call.{State, opening}
@@ -13,6 +12,7 @@ use Rattle.tb_calls.specs.declared.keep.Keep.{Ghosts}
 use Rattle.tb_cleaning.specs.Cleaning.{Cleans}
 use Rattle.tb_cleaning.specs.declared.cleaning.Cleaned.{Cleaned}
 use Rattle.tb_cleaning.specs.declared.fault.CleaningFault.TheVariants as cleaning
+use Rattle.tb_caller.specs.Sent.{IsUnsentOver}
 use Rattle.tb_client.specs.Asking.{Event}
 use Rattle.tb_command_line.specs.Help.{help_text}
 use Rattle.tb_command_line.specs.declared.order.CleanMode.{CleanMode}

@@ -1,9 +1,5 @@
-pub mod Asking
-pub mod Ending
 pub mod Failing
-pub mod Mine
 pub mod Orders
 pub mod Page
 pub mod Running
-pub mod Sent
 pub mod Serve

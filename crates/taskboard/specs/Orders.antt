@@ -5,13 +5,14 @@ use Rattle.sqlite.specs.Held.{Held}
 use Rattle.sqlite_disk.specs.declared.Disk.{Ghosts as DiskGhosts}
 use Rattle.sqlite_store.specs.declared.store.FileStore.{FileStore}
 use Rattle.sqlite_wal.specs.Recovery.{Image}
-use Rattle.taskboard.specs.Ending.{ending_if}
-use Rattle.taskboard.specs.Mine.{IsMine}
-use Rattle.taskboard.specs.Sent.{IsSentOver}
 use Rattle.taskboard.specs.Serve.{IsServerRun, asks_machine, is_of_serving}
 use Rattle.taskboard.specs.declared.TheConstants.{VERSION}
 use Rattle.tb_calls.specs.Call.{opening}
 use Rattle.tb_calls.specs.declared.keep.Keep.{Ghosts}
+use Rattle.tb_caller.specs.Ending.{ending_if}
+use Rattle.tb_caller.specs.Faults.{is_of_mine}
+use Rattle.tb_caller.specs.Mine.{IsMine}
+use Rattle.tb_caller.specs.Sent.{IsSentOver}
 use Rattle.tb_client.specs.Asking.{Event}
 use Rattle.tb_command_line.specs.Help.{help_text}
 use Rattle.tb_cleaning.specs.Cleaning.{Cleans}
@@ -30,7 +31,6 @@ use Rattle.tb_files.specs.Init.{IsMade}
 use Rattle.tb_files.specs.Key.{IsKeyGiven}
 use Rattle.tb_files.specs.View.{IsShown}
 use Rattle.tb_keeper.specs.declared.sql_keep.SqlKeep.{SqlKeep}
-use Rattle.tb_mine.specs.Faults.{is_of_asking}
 use Rattle.tb_orders.specs.Faults.{is_of_making, is_of_scripts}
 use Rattle.tb_orders.specs.declared.ending.Ending.{Ending}
 use Rattle.tb_orders.specs.declared.ending.Ending.TheVariants.{Accepted, Refused}
@@ -49,10 +49,6 @@ script_text script = answers_from answer first_state script
 abbrev pub is_of_telling : Fault → Bool
 is_of_telling WriteFailed = true
 is_of_telling _ = false
-
--- of words of `my`
-abbrev pub is_of_mine : Fault → Bool
-is_of_mine fault = is_of_asking fault
 
 abbrev pub is_of_order : Order → Fault → Bool
 is_of_order (Init order) fault = is_of_making fault
@@ -116,9 +112,9 @@ module _ {D W : Type 0} {d : DiskGhosts D} (g : Ghosts (SqlKeep (FileStore D d))
     pub cleans : Cleans (is_skip order.mode) text (Ok cleaned)
     pub brings : IsCleanedBy order.mode order.is_all order.import cleaned before after ending
 
-module _ {D M W : Type 0} {d : DiskGhosts D} (g : Ghosts (SqlKeep (FileStore D d)))
+module _ {D M G W : Type 0} {d : DiskGhosts D} (g : Ghosts (SqlKeep (FileStore D d)))
     (start : Image) (follows : List Event → ServerLine M → ServerLine M → Type 0)
-    (contents : W → Option (List ℕ)) where
+    (gives : Option (List ℕ) → G → G → Type 0) (contents : W → Option (List ℕ)) where
   -- With an input, and a writer before and after it. The file and its log held these bytes. Which moments the machine's clock gives isn't known.
   abbrev pub IsDone : Order → Option (List ℕ) → W → W → Ending → Type 0
   IsDone (Init order) input before after ending =
@@ -145,7 +141,7 @@ module _ {D M W : Type 0} {d : DiskGhosts D} (g : Ghosts (SqlKeep (FileStore D d
   IsDone (Send order) input before after ending =
       IsSentOver follows contents order before after ending
   IsDone (My order) input before after ending =
-      IsMine follows order.words input (contents before) (contents after) ending
+      IsMine follows gives order.words input (contents before) (contents after) ending
   IsDone (Help topic) input before after ending =
       IsTold (contents before) (contents after) ending (help_text topic)
   IsDone Version input before after ending =

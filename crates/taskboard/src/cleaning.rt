@@ -2,7 +2,6 @@
 ghost use Rattle.std.specs.Io.KnownBytes.{Appends};
 ghost use Rattle.std.specs.Prelude.{◌≡◌, IfErr, IfOk, IfSome, List, Ok, Some, true, ℕ};
 ghost use Rattle.sqlite_wal.specs.Files.{image_at};
-ghost use Rattle.taskboard.specs.Ending.{ending_if};
 ghost use Rattle.taskboard.specs.Failing.{IsCutAfter, IsUnbrought, IsUnclean, IsUncleaned, IsUnread};
 ghost use Rattle.taskboard.specs.Orders.{IsBrought, IsCleaned, IsCleanedBy, is_skip};
 ghost use Rattle.tb_cleaning.specs.Cleaning.{Cleans};
@@ -15,6 +14,7 @@ use sqlite_disk::Start;
 use std::alloc::Global;
 use std::io::{ErrorKind, Read, Write};
 use tb_calls::Keep;
+use tb_caller::tell_notes;
 use tb_cleaning::{Cleaned, CleaningFault, clean};
 use tb_command_line::{CleanMode, CleanOrder, ImportOrder};
 use tb_files::{RealFile, import_into_file, import_parts_into_file};
@@ -113,22 +113,6 @@ fn bring<S: Start, W: Write>(
                 start,
             )
         }
-    }
-}
-
-/// Prints what cleaning did, or would do, and says whether all tasks can be taken.
-pub(crate) fn tell_notes<W: Write>(cleaned: &Cleaned, writer: &mut W) -> Result<Ending, Fault>
-    ensures told { IfOk result (λ ending. (ending ≡ ending_if cleaned.now.is_whole)
-        × Appends (W.contents writer.old) (W.contents writer.new) cleaned.now.notes) }
-    ensures cut { IfErr result (λ fault. (fault ≡ WriteFailed)
-        × AppendsFront (W.contents writer.old) (W.contents writer.new) cleaned.now.notes) }
-    ensures fault { IfErr result (λ fault. is_of_imports fault ≡ true) }
-{
-    print_text(writer, cleaned.notes.as_str())?;
-    if cleaned.is_whole {
-        Ok(Ending::Accepted)
-    } else {
-        Ok(Ending::Refused)
     }
 }
 

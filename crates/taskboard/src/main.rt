@@ -17,13 +17,7 @@ mod cleaning;
 mod clock;
 mod file_orders;
 mod laws;
-mod mine;
-mod my_cleaning;
-mod my_deeds;
-mod my_settings;
-mod my_terminal;
 mod running;
-mod sending;
 mod serve;
 mod served_file;
 mod standard_streams;
@@ -32,8 +26,6 @@ mod ticks;
 use crate::cleaning::clean_into_file;
 use crate::clock::MachineClock;
 use crate::file_orders::{check, give_key, init, view};
-use crate::mine::ask_mine;
-use crate::sending::send;
 use crate::serve::serve_file;
 use crate::standard_streams::hold_standard_streams;
 use sqlite_disk::{Start, Unknown};
@@ -41,12 +33,15 @@ use std::alloc::Global;
 use std::io::{Read, Write};
 use std::process::ExitCode;
 use tb_calls::Keep;
+use tb_caller::{ask_mine, send};
 use tb_causes::{tell_cause, tell_words};
 use tb_client::Line;
 use tb_command_line::{Order, Topic};
 use tb_files::{RealFile, fault_of_script, import_into_file, import_parts_into_file};
 use tb_keeper::SqlKeep;
-use tb_orders::{Ending, MachineChance, OrderFault, print_fault, read_order, status_of};
+use tb_orders::{
+    Chance, Ending, MachineChance, MachineStarted, OrderFault, print_fault, read_order, status_of,
+};
 use tb_program::{Fault, print_text};
 use tb_script::{Watched, run_lines};
 use tb_sending::{MachineDial, ServerLine, name_call};
@@ -60,7 +55,7 @@ proved with logic dac8208d650f15bf
 
 fn main(rt: HostRuntime) -> ExitCode {
     let _held = hold_standard_streams(&rt);
-    let end = match read_order(&rt) {
+    let end = match read_order(rt.alloc(), &MachineStarted::new(&rt)) {
         Ok(order) => end_of(&rt, order, rt.stdin(), &mut rt.stdout(), Unknown),
         Err(fault) => {
             let _ = print_fault(fault, &mut rt.stderr());
@@ -81,7 +76,8 @@ fn end_of<S: Start, R: Read + Drop, W: Write>(
 ) -> Result<Ending, Fault>
     ensures done { IfOk result (λ ending. (named : _) × IsNamed order named
         × IsDone ⟦<SqlKeep<RealFile<S>> as Keep>⟧ (image_at S.Start)
-        ⟦<ServerLine<MachineDial<'static>> as Line>⟧.follows W.contents
+        ⟦<ServerLine<MachineDial<'static>> as Line>⟧.follows
+        ⟦<MachineChance<'static> as Chance>⟧.gives W.contents
         named (R.remaining reader) writer.old writer.new ending) }
     ensures left { IfErr result (λ fault. (named : _) × IsNamed order named
         × (failed : _) × (failed.fault ≡ fault)
@@ -120,7 +116,8 @@ fn carry_out<S: Start, R: Read + Drop, W: Write>(
 ) -> Result<Ending, OrderFault>
     ensures done { IfOk result
         (IsDone ⟦<SqlKeep<RealFile<S>> as Keep>⟧ (image_at S.Start)
-        ⟦<ServerLine<MachineDial<'static>> as Line>⟧.follows W.contents
+        ⟦<ServerLine<MachineDial<'static>> as Line>⟧.follows
+        ⟦<MachineChance<'static> as Chance>⟧.gives W.contents
         order.old (R.remaining reader) writer.old writer.new) }
     ensures left { IfErr result (IsLeft ⟦<SqlKeep<RealFile<S>> as Keep>⟧ (image_at S.Start)
         ⟦<ServerLine<MachineDial<'static>> as Line>⟧.follows W.contents

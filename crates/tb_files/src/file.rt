@@ -22,7 +22,6 @@ use sqlite::{Connection, Error, ErrorCode, FileFrom, FileStore};
 use sqlite_disk::{Disk, Start};
 use std::fs;
 use std::io::Write;
-use std::os::unix::fs::OpenOptionsExt;
 use tb_calls::Keep;
 use tb_desk::Desk;
 use tb_headline::session::resume;
@@ -31,9 +30,6 @@ use tb_orders::{Ending, OrderFault};
 use tb_program::{Fault, print_line, print_text};
 use tb_sql::opening::Version;
 use tb_wal::{Beside, MachineBeside, find_log_fault};
-
-/// The mode of a file that its owner alone may read and write.
-const PRIVATE: u32 = 0o600;
 
 /// What became of a file of version 1.
 const IS_OF_VERSION_TWO: &str = " is now of version 2";
@@ -57,7 +53,7 @@ pub fn open_file<S: Start>(
     if fs::metadata(rt, path).is_err() {
         return Err(Fault::Store);
     }
-    open_beside(rt, &MachineBeside::new(rt, path), path, false, start)
+    open_beside(rt, &mut MachineBeside::new(rt, path), path, false, start)
 }
 
 /// Opens the file at a path, or makes an empty one with sums of its pages, which its owner alone may read and write.
@@ -69,24 +65,25 @@ pub fn open_new_file<S: Start>(
     ensures fault { IfErr result (λ fault. is_of_files fault ≡ true) }
     ensures found { IfOk result (IsFoundIn (image_at S.Start)) }
 {
-    open_beside(rt, &MachineBeside::new(rt, path), path, true, start)
+    open_beside(rt, &mut MachineBeside::new(rt, path), path, true, start)
 }
 
-/// Opens a file, or makes it where that is wanted, once the log beside it was looked at.
+/// Opens a file, or makes it where that is wanted, for its owner alone, once the log beside it was looked at.
 fn open_beside<B: Beside, S: Start>(
     rt: &HostRuntime,
-    beside: &B,
+    beside: &mut B,
     path: &str,
     makes: bool,
     start: S,
 ) -> Result<Connection<RealFile<S>>, Fault>
-    ensures looked { OnOk result (IsFound (B.shows beside.now) None) }
+    ensures looked { OnOk result (IsFound (B.shows beside.old) None) }
+    ensures private { makes ≡ true → OnOk result (B.is_private beside.new) }
     ensures found { IfOk result (IsFoundIn (image_at S.Start)) }
     ensures fault { IfErr result (λ fault. is_of_files fault ≡ true) }
 {
-    look_at_log(beside)?;
+    look_at_log(&*beside)?;
     if makes {
-        make_private(rt, path);
+        beside.make_private();
     }
     match Connection::open_from(rt, path, makes, start) {
         Ok(conn) => take_opened(conn),
@@ -273,13 +270,4 @@ fn close_conn<D: Disk + Drop>(conn: Connection<FileStore<D>>) -> Result<(), Faul
             Err(Fault::Store)
         }
     }
-}
-
-/// Makes an empty file that its owner alone may read, where none is at a path. Its log is made with the same mode.
-fn make_private(rt: &HostRuntime, path: &str) {
-    let _ = fs::OpenOptions::new()
-        .write(true)
-        .create_new(true)
-        .mode(PRIVATE)
-        .open(rt, path);
 }

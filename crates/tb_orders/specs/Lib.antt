@@ -12,3 +12,4 @@ pub mod Orders
 pub mod Running
 pub mod Status
 pub mod Telling
+pub mod Words

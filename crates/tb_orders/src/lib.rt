@@ -36,4 +36,4 @@ pub use running::Progress;
 pub use status::{print_fault, status_of};
 pub use viewing::{print_shown, print_view, view_of};
 pub use whole::import_all;
-pub use words::{order_of, read_order};
+pub use words::{MachineStarted, Started, order_of, read_order};

@@ -1,5 +1,5 @@
 //! The words that the program was started with.
-ghost use Rattle.std.specs.Prelude.{◌≡◌, ◌∷◌, IfErr, IfOk, List, None, Ok, OnOk, Some, codes, drop, map, true, ℕ};
+ghost use Rattle.std.specs.Prelude.{◌≡◌, ◌∷◌, IfErr, IfOk, List, None, Ok, Some, codes, drop, map, true, ℕ};
 ghost use Rattle.std.specs.List.{list_all};
 ghost use Rattle.std.specs.String.{string_bytes};
 ghost use Rattle.std.specs.Vec.Iter.{into_iter_items};
@@ -8,6 +8,7 @@ ghost use Rattle.tb_command_line.specs.Extra.{with_extra, without_extra};
 ghost use Rattle.tb_command_line.specs.Sending.{my_of, send_of, told_of};
 ghost use Rattle.tb_command_line.specs.declared.order.Order.{Order};
 ghost use Rattle.tb_orders.specs.Telling.{ReadsAs, is_of_words};
+ghost use Rattle.tb_orders.specs.Words.{IsKeptFor, IsReadOf, has_dash};
 
 use crate::elsewhere::kept_key;
 use std::alloc::{AllocError, Global};
@@ -17,62 +18,91 @@ use tb_board::Key;
 use tb_command_line::{Order, WordsFault, command_of};
 use tb_program::Fault;
 
+/// The words that the program was started with, and the key that is kept elsewhere.
+pub trait Started {
+    ghost use Rattle.std.specs.Prelude.{List, Option, IfErr, IfOk, true, ◌≡◌, ℕ};
+    ghost use Rattle.std.specs.Vec.Iter.{into_iter_items};
+    ghost use Rattle.std_alloc.specs.declared.string.String.{String};
+    ghost use Rattle.tb_orders.specs.Telling.{is_of_words};
+    ghost use Rattle.tb_program.specs.declared.fault.Fault.{Fault};
+
+    /// It was started with these words, the first of which names the program.
+    ghost gives: { Self → List (String Global) → Type 0 };
+
+    /// The words can't be told, by this fault.
+    ghost hides: { Self → Fault → Type 0 };
+
+    /// This key, or none, is kept elsewhere.
+    ghost keeps: { Self → Option (List ℕ) → Type 0 };
+
+    fn words(&self) -> Result<Args, Fault>
+        ensures given { IfOk result (λ words. gives self.now (into_iter_items words)) }
+        ensures hidden { IfErr result (hides self.now) }
+        ensures fault { IfErr result (λ fault. is_of_words fault ≡ true) };
+
+    fn kept(&self) -> Result<Option<Key>, AllocError>
+        ensures { IfOk result (keeps self.now) };
+}
+
+/// What the machine says of the program's start. It isn't known before.
+#[derive(Drop)]
+pub struct MachineStarted<'a> {
+    rt: &'a HostRuntime,
+}
+
+impl<'a> MachineStarted<'a> {
+    pub fn new(rt: &'a HostRuntime) -> MachineStarted<'a> {
+        MachineStarted { rt }
+    }
+}
+
+impl<'a> Started for MachineStarted<'a> {
+    ghost gives = { λ _ _. Unit {0} };
+
+    ghost hides = { λ _ _. Unit {0} };
+
+    ghost keeps = { λ _ _. Unit {0} };
+
+    fn words(&self) -> Result<Args, Fault> {
+        match env::args(self.rt) {
+            Ok(words) => Ok(words),
+            Err(error) if error.kind() == ErrorKind::OutOfMemory => Err(Fault::Memory),
+            Err(_) => Err(Fault::Bad),
+        }
+    }
+
+    fn kept(&self) -> Result<Option<Key>, AllocError> {
+        kept_key(self.rt)
+    }
+}
+
 /// The order that the words after the program's name are. Words that aren't UTF-8 are bad.
-pub fn read_order(rt: &HostRuntime) -> Result<Order, Fault>
-    ensures { IfErr result (λ fault. is_of_words fault ≡ true) }
+pub fn read_order<S: Started>(alloc: Global, started: &S) -> Result<Order, Fault>
+    ensures read { IsReadOf S.gives S.hides S.keeps started.now result }
+    ensures fault { IfErr result (λ fault. is_of_words fault ≡ true) }
 {
-    let kept = kept_for_words(rt)?;
-    order_after_name(rt.alloc(), read_words(rt)?, &kept)
+    let words = after_first(alloc, started.words()?)?;
+    let kept = kept_for(started, words.as_slice())?;
+    let texts = texts_of(alloc, words.as_slice())?;
+    order_of(alloc, texts.as_slice(), &kept)
 }
 
 /// The key that is kept elsewhere, which is looked for where one of the words is `-`.
-fn kept_for_words(rt: &HostRuntime) -> Result<Option<Key>, Fault>
-    ensures { IfErr result (λ fault. is_of_words fault ≡ true) }
+fn kept_for<S: Started>(started: &S, words: &[String]) -> Result<Option<Key>, AllocError>
+    ensures { IfOk result (IsKeptFor S.keeps started.now (has_dash words.now)) }
 {
-    let words = after_first(rt.alloc(), read_words(rt)?)?;
-    if has_dash(words.as_slice()) {
-        Ok(kept_key(rt)?)
+    if has_dash(words) {
+        started.kept()
     } else {
         Ok(None)
     }
 }
 
-fn read_words(rt: &HostRuntime) -> Result<Args, Fault>
-    ensures { IfErr result (λ fault. is_of_words fault ≡ true) }
+/// Whether a word stands for a key that is kept elsewhere.
+fn has_dash(words: &[String]) -> bool
+    ensures { result ≡ has_dash words.now }
 {
-    match env::args(rt) {
-        Ok(words) => Ok(words),
-        Err(error) if error.kind() == ErrorKind::OutOfMemory => Err(Fault::Memory),
-        Err(_) => Err(Fault::Bad),
-    }
-}
-
-fn has_dash(words: &[String]) -> bool {
     words.iter().any(|word| word.as_str() == "-")
-}
-
-/// The order that the words after the first are, which names the program.
-fn order_after_name(alloc: Global, words: Args, kept: &Option<Key>) -> Result<Order, Fault>
-    ensures order { (request : Request)
-        → without_extra (map string_bytes (drop 1 (into_iter_items words))) ≡ words_of request
-        → list_all is_plain (texts_of request) ≡ true
-        → ReadsAs result
-        (with_extra (map string_bytes (drop 1 (into_iter_items words)))
-        (order_of kept.now request)) }
-    ensures told { (order : Order)
-        → told_of (map string_bytes (drop 1 (into_iter_items words))) ≡ Some order
-        → OnOk result (result ≡ Ok order) }
-    ensures sent { (rest : List (List ℕ))
-        → map string_bytes (drop 1 (into_iter_items words)) ≡ codes "send" ∷ rest
-        → told_of (codes "send" ∷ rest) ≡ None → ReadsAs result (send_of rest) }
-    ensures mine { (rest : List (List ℕ))
-        → map string_bytes (drop 1 (into_iter_items words)) ≡ codes "my" ∷ rest
-        → told_of (codes "my" ∷ rest) ≡ None → ReadsAs result (my_of rest) }
-    ensures fault { IfErr result (λ fault. is_of_words fault ≡ true) }
-{
-    let words = after_first(alloc, words)?;
-    let texts = texts_of(alloc, words.as_slice())?;
-    order_of(alloc, texts.as_slice(), kept)
 }
 
 /// The order that words are, with the key that is kept elsewhere, or the program's fault.

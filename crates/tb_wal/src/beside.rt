@@ -37,6 +37,13 @@ pub trait Beside {
     fn look(&self) -> Result<Seen, AllocError>
         ensures { IfOk result
             (λ seen. shows self.now seen.is_there seen.is_younger seen.log.items) };
+
+    /// The file was made for its owner alone, unless it was there or can't be made.
+    ghost is_private: { Self → Type 0 };
+
+    /// Makes the file, empty, where there is none. Its log is made with the same mode.
+    fn make_private(&mut self)
+        ensures { is_private self.new };
 }
 
 /// Looks at a file and its log.

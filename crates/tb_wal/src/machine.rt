@@ -1,9 +1,13 @@
-//! The machine's side of the look at a file and the log beside it.
+//! The machine's side of the look at a file and the log beside it, and of making the file.
 
 use crate::beside::{Beside, Seen};
 use std::alloc::AllocError;
 use std::fs::{self, Metadata};
 use std::io::ErrorKind;
+use std::os::unix::fs::OpenOptionsExt;
+
+/// The mode of a file that its owner alone may read and write.
+const PRIVATE: u32 = 0o600;
 
 /// The file at a path, and its log. What the machine shows of them isn't known.
 #[derive(Drop)]
@@ -41,6 +45,17 @@ impl<'a> Beside for MachineBeside<'a> {
             is_younger,
             log,
         })
+    }
+
+    ghost is_private = { λ _. Unit {0} };
+
+    /// Where it can't be made, the engine says why it can't open it.
+    fn make_private(&mut self) {
+        let _ = fs::OpenOptions::new()
+            .write(true)
+            .create_new(true)
+            .mode(PRIVATE)
+            .open(self.rt, self.path);
     }
 }
 

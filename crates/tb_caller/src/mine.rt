@@ -1,10 +1,10 @@
 //! The order that asks a server in the words of `my`: the settings are read, and `tb_mine` asks for what the words say, over
 //! `send_order`. Words that read or write files besides are in `my_deeds.rt`.
 ghost use Rattle.std.specs.Prelude.{◌≡◌, IfErr, IfOk, IfSome, List, Some, option_copied, refl, true};
-ghost use Rattle.taskboard.specs.Asking.{IsAskedBy, asked_joined};
-ghost use Rattle.taskboard.specs.Ending.{ending_if};
-ghost use Rattle.taskboard.specs.Mine.{ComesTo, IsDoneOfBoard, IsMine, argument_of, checked_path, is_alone, named_board};
-ghost use Rattle.taskboard.specs.Orders.{is_of_mine};
+ghost use Rattle.tb_caller.specs.Asking.{IsAskedBy, asked_joined};
+ghost use Rattle.tb_caller.specs.Ending.{ending_if};
+ghost use Rattle.tb_caller.specs.Mine.{ComesTo, IsDoneOfBoard, IsMine, argument_of, checked_path, is_alone, named_board};
+ghost use Rattle.tb_caller.specs.Faults.{is_of_mine};
 ghost use Rattle.tb_mine.specs.Asked.{Asked};
 
 use crate::my_cleaning::check_file;
@@ -20,32 +20,34 @@ use tb_my::{
     Asker, ImportMode, MyFault, Sent, board_given, help_asked, import_of, looks, needed_board,
     seconds_given, words_after_options,
 };
-use tb_orders::{Ending, MachineChance};
+use tb_orders::{Chance, Ending, MachineChance};
 use tb_program::{Fault, machine_moment, print_text};
 use tb_sending::{Dial, MachineDial, ServerLine, name_call, new_id, send_order};
 use tb_task::TaskId;
 use tb_values::{Duplicate, Items, Text};
 
-/// Whom to ask, for how long, under which key if not that which `send` reads, and what takes back the calls that were accepted, beside
-/// those of commands before.
+/// Whom to ask, for how long, under which key if not that which `send` reads, what takes back the calls that were accepted, beside
+/// those of commands before, and of what the identifiers of calls are made.
 #[derive(Drop)]
-pub(crate) struct Caller<'a> {
+pub(crate) struct Caller<'a, G> {
     rt: &'a HostRuntime,
     pub(crate) asker: Asker,
     key: Option<Key>,
     seconds: u32,
     kept: Text,
     before: Text,
+    chance: G,
 }
 
-impl Asks for Caller<'_> {
+impl<G: Chance> Asks for Caller<'_, G> {
     ghost follows = { λ asked old new.
-        IsAskedBy ⟦<ServerLine<MachineDial<'static>> as Line>⟧.follows asked old new };
+        IsAskedBy ⟦<ServerLine<MachineDial<'static>> as Line>⟧.follows G.gives asked old new };
 
-    ghost unchanged = { λ caller. (refl, refl, tt) };
+    ghost unchanged = { λ caller. (refl, refl, refl) };
 
     ghost joined = { λ first more a b c.
-        asked_joined ⟦<ServerLine<MachineDial<'static>> as Line>⟧.follows first more a b c };
+        asked_joined
+        ⟦<ServerLine<MachineDial<'static>> as Line>⟧.follows G.gives first more a b c };
 
     fn ask(&mut self, words: Items<Text>, call: Option<TaskId>) -> Result<Answer, Fault> {
         let mut order = SendOrder {
@@ -56,11 +58,10 @@ impl Asks for Caller<'_> {
             seconds: self.seconds,
             words,
         };
-        let mut chance = MachineChance::new(self.rt);
-        name_call(&mut chance, &mut order);
+        name_call(&mut self.chance, &mut order);
         let mut body = Vec::new(self.rt.alloc());
         let dial = MachineDial::new(self.rt);
-        match send_order(self.rt, &mut order, dial, &mut chance, &mut body) {
+        match send_order(self.rt, &mut order, dial, &mut self.chance, &mut body) {
             Ok(ending) => Ok(Answer {
                 is_accepted: is_accepted(ending),
                 body: Items::from_vec(body),
@@ -76,13 +77,14 @@ impl Asks for Caller<'_> {
 
 /// Asks for what the words say, in their order, and tells what came of it. Words and settings that are wrong are told here, and are
 /// `Bad`.
-pub(crate) fn ask_mine<R: Read + Drop, W: Write>(
+pub fn ask_mine<R: Read + Drop, W: Write>(
     rt: &HostRuntime,
     order: &MyOrder,
     reader: R,
     writer: &mut W,
 ) -> Result<Ending, Fault>
     ensures done { IfOk result (IsMine ⟦<ServerLine<MachineDial<'static>> as Line>⟧.follows
+        ⟦<MachineChance<'static> as Chance>⟧.gives
         order.now.words (R.remaining reader) (W.contents writer.old) (W.contents writer.new)) }
     ensures fault { IfErr result (λ fault. is_of_mine fault ≡ true) }
 {
@@ -109,15 +111,16 @@ pub(crate) fn ask_mine<R: Read + Drop, W: Write>(
 }
 
 /// Asks for what the words say, and says whether it was accepted.
-fn ask_as<R: Read + Drop, W: Write>(
+fn ask_as<G: Chance, R: Read + Drop, W: Write>(
     rt: &HostRuntime,
-    caller: &mut Caller<'_>,
+    caller: &mut Caller<'_, G>,
     words: &[Text],
     reader: R,
     writer: &mut W,
 ) -> Result<bool, Fault>
     ensures asked { IfOk result (λ is_accepted. (asked : List Asked)
-        × IsAskedBy ⟦<ServerLine<MachineDial<'static>> as Line>⟧.follows asked caller.old caller.new
+        × IsAskedBy ⟦<ServerLine<MachineDial<'static>> as Line>⟧.follows G.gives
+        asked caller.old caller.new
         × ComesTo words.now (R.remaining reader) (W.contents writer.old) (W.contents writer.new)
         caller.old.asker asked is_accepted) }
     ensures fault { IfErr result (λ fault. is_of_mine fault ≡ true) }
@@ -135,14 +138,15 @@ fn ask_as<R: Read + Drop, W: Write>(
 }
 
 /// Asks for what words say of a board.
-fn ask_of_board<W: Write>(
+fn ask_of_board<G: Chance, W: Write>(
     rt: &HostRuntime,
-    caller: &mut Caller<'_>,
+    caller: &mut Caller<'_, G>,
     words: &[Text],
     writer: &mut W,
 ) -> Result<bool, Fault>
     ensures asked { IfOk result (λ is_accepted. (asked : List Asked)
-        × IsAskedBy ⟦<ServerLine<MachineDial<'static>> as Line>⟧.follows asked caller.old caller.new
+        × IsAskedBy ⟦<ServerLine<MachineDial<'static>> as Line>⟧.follows G.gives
+        asked caller.old caller.new
         × IsDoneOfBoard words.now (W.contents writer.old) (W.contents writer.new)
         caller.old.asker asked is_accepted) }
     ensures fault { IfErr result (λ fault. is_of_mine fault ≡ true) }
@@ -216,7 +220,7 @@ fn is_accepted(ending: Ending) -> bool
 }
 
 /// Whether nobody answers where words begin with a view. That is told, and where they begin with a call, that it waits.
-fn is_silent(rt: &HostRuntime, caller: &Caller<'_>, words: &[Text]) -> bool {
+fn is_silent<G>(rt: &HostRuntime, caller: &Caller<'_, G>, words: &[Text]) -> bool {
     let server = caller.asker.server.as_str();
     let seconds = caller.seconds;
     if MachineDial::new(rt).open(server, u64::from(seconds)) {
@@ -289,7 +293,10 @@ fn named_board(all: &[Text]) -> Option<&Text>
 }
 
 /// Whom to ask by the settings and the options in front of all words.
-fn read_caller<'a>(rt: &'a HostRuntime, all: &[Text]) -> Result<Caller<'a>, MyFault>
+fn read_caller<'a>(
+    rt: &'a HostRuntime,
+    all: &[Text],
+) -> Result<Caller<'a, MachineChance<'a>>, MyFault>
     ensures { IfOk result (λ caller. IfSome (named_board all.now)
         (λ name. caller.asker.board ≡ Some name)) }
 {
@@ -303,6 +310,7 @@ fn read_caller<'a>(rt: &'a HostRuntime, all: &[Text]) -> Result<Caller<'a>, MyFa
         seconds,
         kept: Text::new(rt.alloc()),
         before: Text::new(rt.alloc()),
+        chance: MachineChance::new(rt),
     })
 }
 

@@ -1,6 +1,7 @@
 use Rattle.std.proofs.Common.{rules, refl, subst, sym}
-use Rattle.taskboard.specs.Sent.{IsSentOver}
-use Rattle.taskboard.proofs.mine.CallerAsks.ask.Goals as goal
+use Rattle.tb_caller.proofs.Lines.{called_by}
+use Rattle.tb_caller.specs.Sent.{IsSentOver}
+use Rattle.tb_caller.proofs.mine.CallerAsks.ask.Goals as goal
 
 pub returns-in-Ok-clause-asked : goal.returns-in-Ok-clause-asked
 returns-in-Ok-clause-asked c =
@@ -14,7 +15,7 @@ returns-in-Ok-clause-asked c =
           member = search rules;
           under = search rules;
           words = search rules;
-          call = search rules;
+          call = called_by _ c.args.call c.name_call.old.order c.name_call.new.order c.name_call.old.chance c.name_call.new.chance (search rules) c.name_call.ensures.given c.name_call.ensures.random;
           before = c.new-body.result;
           after = c.send_order.new.writer;
           none = c.new-body.ensures.items;
@@ -22,6 +23,7 @@ returns-in-Ok-clause-asked c =
           sent = subst (IsSentOver _ _ c.name_call.new.order c.new-body.result c.send_order.new.writer) c.is_accepted.ensures
               (record { ready = c.send_order.new.order; machine = c.new-dial.result; old = sent.0; new = sent.1; to = sent.2; comes = sent.3 });
         },
-        tt,
+        c.send_order.new.chance,
+        refl,
       ),
     )

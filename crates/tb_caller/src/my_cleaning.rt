@@ -1,10 +1,10 @@
 //! Imports of `my` whose text is cleaned first.
 ghost use Rattle.std.specs.Prelude.{◌≡◌, IfErr, IfOk, IfSome, Ok, true};
-ghost use Rattle.taskboard.specs.Mine.{IsChecked, IsCleanText};
-ghost use Rattle.taskboard.specs.Orders.{is_of_mine};
+ghost use Rattle.tb_caller.specs.Mine.{IsChecked, IsCleanText};
+ghost use Rattle.tb_caller.specs.Faults.{is_of_mine};
 ghost use Rattle.tb_cleaning.specs.Cleaning.{Cleans};
 
-use crate::cleaning::tell_notes;
+use crate::notes::tell_notes;
 use crate::my_deeds::{UNREAD, kind_of, refuse, text_of};
 use std::io::{Read, Write};
 use tb_cleaning::{Cleaned, CleaningFault, clean};

@@ -1,8 +1,8 @@
 use Rattle.std.proofs.Common.{inl, inr}
 use Rattle.std.specs.Prelude.{◌⊎◌}
 use Rattle.std.proofs.lemmas.Result.{IfErr-weaker, IfOk-weaker}
-use Rattle.taskboard.proofs.Handed.{cut_over}
-use Rattle.taskboard.proofs.sending.send.Goals as goal
+use Rattle.tb_caller.proofs.Lines.{cut_over}
+use Rattle.tb_caller.proofs.sending.send.Goals as goal
 
 pub returns-clause-sent : goal.returns-clause-sent
 returns-clause-sent g c =

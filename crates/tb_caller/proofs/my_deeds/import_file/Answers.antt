@@ -1,8 +1,8 @@
 use Rattle.std.proofs.Common.{◌++◌, refl, subst, sym}
 use Rattle.std.proofs.lemmas.Result.{IfOk-weaker}
-use Rattle.taskboard.specs.Asking.{asked_joined}
-use Rattle.taskboard.specs.Mine.{IsImportedAt}
-use Rattle.taskboard.proofs.my_deeds.import_file.Goals as goal
+use Rattle.tb_caller.specs.Asking.{asked_joined}
+use Rattle.tb_caller.specs.Mine.{IsImportedAt}
+use Rattle.tb_caller.proofs.my_deeds.import_file.Goals as goal
 
 pub returns-clause-asked : goal.returns-clause-asked
 returns-clause-asked g c =
@@ -12,7 +12,7 @@ returns-clause-asked g c =
     IfOk-weaker c.import_into_board.result _ _
     (λ ok p. let all = look.0 ++ p.0 in (
       all,
-      asked_joined _ look.0 p.0 c.args.caller.now c.find_board.new.asks c.import_into_board.new.caller look.1 p.1,
+      asked_joined _ _ look.0 p.0 c.args.caller.now c.find_board.new.asks c.import_into_board.new.caller look.1 p.1,
       record {
         name = c.in_ok-name.name;
         named = c.in_ok-name.ensures.board;

@@ -1,7 +1,7 @@
 use Rattle.std.proofs.Common.{rules, ◌≡◌, Some, codes, false, subst, sym, true}
 use Rattle.std.proofs.lemmas.Result.{IfOk-weaker}
-use Rattle.taskboard.specs.Mine.{IsDoneIf, is_alone}
-use Rattle.taskboard.proofs.mine.ask_of_board.Goals as goal
+use Rattle.tb_caller.specs.Mine.{IsDoneIf, is_alone}
+use Rattle.tb_caller.proofs.mine.ask_of_board.Goals as goal
 
 pub returns-then-is_alone-clause-asked : goal.returns-then-is_alone-clause-asked
 returns-then-is_alone-clause-asked g c =

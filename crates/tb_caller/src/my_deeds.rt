@@ -1,9 +1,9 @@
 //! The words of `my` that ask for more than one call, or for none: they read and write files.
 ghost use Rattle.std.specs.Prelude.{◌≡◌, IfErr, IfOk, IfSome, List, Some, false, true};
 ghost use Rattle.std.specs.String.{string_bytes};
-ghost use Rattle.taskboard.specs.Asking.{IsAskedBy};
-ghost use Rattle.taskboard.specs.Mine.{IsBringing, IsImported, IsImportedAt, IsTextOf, IsUndone, IsUsed, IsWritten, kind_of};
-ghost use Rattle.taskboard.specs.Orders.{is_of_mine};
+ghost use Rattle.tb_caller.specs.Asking.{IsAskedBy};
+ghost use Rattle.tb_caller.specs.Mine.{IsBringing, IsImported, IsImportedAt, IsTextOf, IsUndone, IsUsed, IsWritten, kind_of};
+ghost use Rattle.tb_caller.specs.Faults.{is_of_mine};
 ghost use Rattle.tb_mine.specs.Asked.{Asked};
 
 use crate::mine::{Caller, board_of, unfit};
@@ -20,7 +20,7 @@ use tb_my::{
     kept_rest, kept_sent, lost_in, read_settings, settings_text, undo_head, undone_in, with_board,
     without_mark,
 };
-use tb_orders::{Ending, parts_of};
+use tb_orders::{Chance, Ending, parts_of};
 use tb_program::{Fault, print_line};
 use tb_sending::{KeyFolder, MachineDial, ServerLine};
 use tb_values::{Items, Text};
@@ -72,13 +72,14 @@ pub(crate) fn keep_undo(
 }
 
 /// Takes back the last calls of this person to this server.
-pub(crate) fn undo<W: Write>(
+pub(crate) fn undo<G: Chance, W: Write>(
     rt: &HostRuntime,
-    caller: &mut Caller<'_>,
+    caller: &mut Caller<'_, G>,
     writer: &mut W,
 ) -> Result<bool, Fault>
     ensures asked { IfOk result (λ is_accepted. (asked : List Asked)
-        × IsAskedBy ⟦<ServerLine<MachineDial<'static>> as Line>⟧.follows asked caller.old caller.new
+        × IsAskedBy ⟦<ServerLine<MachineDial<'static>> as Line>⟧.follows G.gives
+        asked caller.old caller.new
         × IsUndone (W.contents writer.old) (W.contents writer.new)
         caller.old.asker asked is_accepted) }
     ensures fault { IfErr result (λ fault. is_of_mine fault ≡ true) }
@@ -128,14 +129,15 @@ pub(crate) fn refuse(rt: &HostRuntime, text: &str) -> bool
 }
 
 /// Writes another board into the settings, if it is there.
-pub(crate) fn use_board<W: Write>(
+pub(crate) fn use_board<G: Chance, W: Write>(
     rt: &HostRuntime,
-    caller: &mut Caller<'_>,
+    caller: &mut Caller<'_, G>,
     board: &Text,
     writer: &mut W,
 ) -> Result<bool, Fault>
     ensures asked { IfOk result (λ is_accepted. (asked : List Asked)
-        × IsAskedBy ⟦<ServerLine<MachineDial<'static>> as Line>⟧.follows asked caller.old caller.new
+        × IsAskedBy ⟦<ServerLine<MachineDial<'static>> as Line>⟧.follows G.gives
+        asked caller.old caller.new
         × IsUsed board.now (W.contents writer.old) (W.contents writer.new)
         caller.old.asker asked is_accepted) }
     ensures fault { IfErr result (λ fault. is_of_mine fault ≡ true) }
@@ -275,16 +277,17 @@ fn answer_to<R: Read + Drop, W: Write>(
 }
 
 /// Imports a file, or standard input, of any length, in parts.
-pub(crate) fn import_file<R: Read + Drop, W: Write>(
+pub(crate) fn import_file<G: Chance, R: Read + Drop, W: Write>(
     rt: &HostRuntime,
-    caller: &mut Caller<'_>,
+    caller: &mut Caller<'_, G>,
     path: &str,
     mode: ImportMode,
     reader: R,
     writer: &mut W,
 ) -> Result<bool, Fault>
     ensures asked { IfOk result (λ is_accepted. (asked : List Asked)
-        × IsAskedBy ⟦<ServerLine<MachineDial<'static>> as Line>⟧.follows asked caller.old caller.new
+        × IsAskedBy ⟦<ServerLine<MachineDial<'static>> as Line>⟧.follows G.gives
+        asked caller.old caller.new
         × IsImported path.now mode (R.remaining reader)
         (W.contents writer.old) (W.contents writer.new) caller.old.asker asked is_accepted) }
     ensures fault { IfErr result (λ fault. is_of_mine fault ≡ true) }
@@ -296,9 +299,9 @@ pub(crate) fn import_file<R: Read + Drop, W: Write>(
     import_into_board(rt, caller, &board, path, mode, reader, writer)
 }
 
-fn import_into_board<R: Read + Drop, W: Write>(
+fn import_into_board<G: Chance, R: Read + Drop, W: Write>(
     rt: &HostRuntime,
-    caller: &mut Caller<'_>,
+    caller: &mut Caller<'_, G>,
     board: &Text,
     path: &str,
     mode: ImportMode,
@@ -306,7 +309,8 @@ fn import_into_board<R: Read + Drop, W: Write>(
     writer: &mut W,
 ) -> Result<bool, Fault>
     ensures asked { IfOk result (λ is_accepted. (asked : List Asked)
-        × IsAskedBy ⟦<ServerLine<MachineDial<'static>> as Line>⟧.follows asked caller.old caller.new
+        × IsAskedBy ⟦<ServerLine<MachineDial<'static>> as Line>⟧.follows G.gives
+        asked caller.old caller.new
         × IsImportedAt (Some board.now) path.now mode (R.remaining reader)
         (W.contents writer.old) (W.contents writer.new) asked is_accepted) }
     ensures fault { IfErr result (λ fault. is_of_mine fault ≡ true) }

@@ -1,6 +1,6 @@
 //! Calls and views that are sent to a server.
 ghost use Rattle.std.specs.Prelude.{◌≡◌, IfErr, IfOk, true};
-ghost use Rattle.taskboard.specs.Sent.{IsSentOver, IsUnsentOver};
+ghost use Rattle.tb_caller.specs.Sent.{IsSentOver, IsUnsentOver};
 ghost use Rattle.tb_sending.specs.Faults.{is_of_sending};
 
 use std::io::Write;
@@ -11,7 +11,7 @@ use tb_program::Fault;
 use tb_sending::{MachineDial, ServerLine, send_order};
 
 /// Sends a call or a view until it is answered, over connections that the machine makes.
-pub(crate) fn send<W: Write>(
+pub fn send<W: Write>(
     rt: &HostRuntime,
     order: &mut SendOrder,
     writer: &mut W,

@@ -1,7 +1,7 @@
 use Rattle.std.proofs.Common.{rules, ◌∷◌, [], false, refl, subst, sym}
 use Rattle.std.proofs.lemmas.Result.{IfOk-weaker}
-use Rattle.taskboard.specs.Mine.{IsKept}
-use Rattle.taskboard.proofs.my_deeds.use_board.Goals as goal
+use Rattle.tb_caller.specs.Mine.{IsKept}
+use Rattle.tb_caller.proofs.my_deeds.use_board.Goals as goal
 
 pub returns-clause-asked : goal.returns-clause-asked
 returns-clause-asked g c =

@@ -1,9 +1,9 @@
 -- What words of `my` come to.
-use Rattle.std.specs.Prelude.{◌≡◌, ◌⊎◌, Bool, true, false, IfSome, List, [], ◌∷◌, ◌++◌, codes, Ok, Option, Some, None, if◌then◌else◌}
+use Rattle.std.specs.Prelude.{◌≡◌, ◌⊎◌, ℕ, Bool, true, false, IfSome, List, [], ◌∷◌, ◌++◌, codes, Ok, Option, Some, None, if◌then◌else◌}
 use Rattle.std.specs.Io.KnownBytes.{Appends}
 use Rattle.std.specs.Str.{bytes_eq}
-use Rattle.taskboard.specs.Asking.{AreSentBy}
-use Rattle.taskboard.specs.Ending.{ending_if}
+use Rattle.tb_caller.specs.Asking.{AreSentBy}
+use Rattle.tb_caller.specs.Ending.{ending_if}
 use Rattle.tb_cleaning.specs.Cleaning.{Cleans}
 use Rattle.tb_cleaning.specs.declared.cleaning.Cleaned.{Cleaned}
 use Rattle.tb_client.specs.Asking.{Event}
@@ -188,7 +188,8 @@ abbrev pub ComesTo : List Text → Option Text → Output → Output → Asker �
 ComesTo words = ComesBy (argument_of words (codes "use")) (import_of words)
     (is_alone words (codes "undo")) words
 
-module _ {M : Type 0} (follows : List Event → ServerLine M → ServerLine M → Type 0) where
+module _ {M G : Type 0} (follows : List Event → ServerLine M → ServerLine M → Type 0)
+    (gives : Option (List ℕ) → G → G → Type 0) where
   -- By some settings of the machine, with the board that is named, this was sent, and nothing else.
   pub record IsAsked (board : Option Text) (words : List Text) (input : Option Text)
       (before after : Output) (ending : Ending) : Type 0 where
@@ -196,7 +197,9 @@ module _ {M : Type 0} (follows : List Event → ServerLine M → ServerLine M �
     pub key : Option Text
     pub named : IfSome board (λ name. asker.board ≡ Some name)
     pub asked : List Asked
-    pub sent : AreSentBy follows asker key asked
+    pub first : G
+    pub last : G
+    pub sent : AreSentBy follows gives asker key asked first last
     pub is_accepted : Bool
     pub is : ending ≡ ending_if is_accepted
     pub comes : ComesTo words input before after asker asked is_accepted
