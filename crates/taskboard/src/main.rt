@@ -48,7 +48,7 @@ use tb_sending::{MachineDial, ServerLine, name_call};
 
 /// Which program this is: its release, as the newest in `CHANGELOG.md`, and what it reads and was proved with.
 const VERSION: &str = "\
-taskboard 1.0.1 (2026-12-01)
+taskboard 1.0.2 (2026-12-01)
 tables of version 2
 proved with logic dac8208d650f15bf
 ";
