@@ -1,10 +1,10 @@
 -- Which order the words are that the program was started with.
-use Rattle.std.specs.Prelude.{◌≡◌, ◌⊎◌, ◌∷◌, Bool, true, false, List, None, Ok, Err, OnOk, Option, Result, Some, codes, drop, map, ℕ}
+use Rattle.std.specs.Prelude.{◌≡◌, ◌⊎◌, ◌∷◌, Bool, true, false, List, None, Ok, Err, Option, Result, Some, codes, drop, map, ℕ}
 use Rattle.std.specs.List.{list_all, list_any}
 use Rattle.std.specs.Str.{bytes_eq}
 use Rattle.std.specs.String.{string_bytes}
 use Rattle.std.specs.declared.alloc.Global.{Global}
-use Rattle.std_alloc.specs.declared.string.String.{String}
+use Rattle.std.specs.declared.string.String.{String}
 use Rattle.tb_command_line.specs.Extra.{with_extra, without_extra}
 use Rattle.tb_command_line.specs.Order.{Request, is_plain, order_of, texts_of, words_of}
 use Rattle.tb_command_line.specs.Sending.{my_of, send_of, told_of}

@@ -22,7 +22,8 @@ use tb_program::Fault;
 pub trait Started {
     ghost use Rattle.std.specs.Prelude.{List, Option, IfErr, IfOk, true, ◌≡◌, ℕ};
     ghost use Rattle.std.specs.Vec.Iter.{into_iter_items};
-    ghost use Rattle.std_alloc.specs.declared.string.String.{String};
+    ghost use Rattle.std.specs.declared.alloc.Global.{Global};
+    ghost use Rattle.std.specs.declared.string.String.{String};
     ghost use Rattle.tb_orders.specs.Telling.{is_of_words};
     ghost use Rattle.tb_program.specs.declared.fault.Fault.{Fault};
 
