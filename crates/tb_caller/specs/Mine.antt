@@ -19,7 +19,7 @@ use Rattle.tb_my.specs.Bringing.{import_of}
 use Rattle.tb_my.specs.Days.{Text}
 use Rattle.tb_my.specs.Importing.{is_json, without_mark}
 use Rattle.tb_my.specs.Options.{board_given, help_asked, words_after_options}
-use Rattle.tb_my.specs.Undo.{undone_in}
+use Rattle.tb_my.specs.Undo.{kept_rest, undone_in}
 use Rattle.tb_my.specs.declared.bringing.ImportMode.{ImportMode}
 use Rattle.tb_my.specs.declared.bringing.ImportMode.TheVariants as mode
 use Rattle.tb_my.specs.declared.settings.Asker.{Asker}
@@ -106,6 +106,21 @@ abbrev pub IsUndone : Output → Output → Asker → List Asked → Bool → Ty
 IsUndone before after asker asked is_accepted = IsRefused asked before after is_accepted
     ⊎ ((kept : Text) × IsAskedFor told_line (undone_in asker.server asker.name kept)
     asked before after is_accepted)
+
+-- the text that the folder's file has, from which that is gone then
+abbrev pub IsTakenBack : {F : Type 0} → (F → Text → Text → Type 0) → F → F → Output → Output → Asker
+    → List Asked → Bool → Text → Type 0
+IsTakenBack has old new before after asker asked is_accepted kept = has old (codes "undo") kept
+    × has new (codes "undo") (kept_rest kept)
+    × (IsRefused asked before after is_accepted
+    ⊎ IsAskedFor told_line (undone_in asker.server asker.name kept) asked before after is_accepted)
+
+-- or nothing is kept of this person and server, and the folder is as it was
+abbrev pub IsUndoneIn : {F : Type 0} → (F → Text → Text → Type 0) → F → F → Output → Output → Asker
+    → List Asked → Bool → Type 0
+IsUndoneIn has old new before after asker asked is_accepted =
+    ((new ≡ old) × IsRefused asked before after is_accepted)
+    ⊎ ((kept : Text) × IsTakenBack has old new before after asker asked is_accepted kept)
 
 -- ---- imports
 

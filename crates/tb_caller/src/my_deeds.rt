@@ -2,7 +2,7 @@
 ghost use Rattle.std.specs.Prelude.{◌≡◌, IfErr, IfOk, IfSome, List, Some, false, true};
 ghost use Rattle.std.specs.String.{string_bytes};
 ghost use Rattle.tb_caller.specs.Asking.{IsAskedBy};
-ghost use Rattle.tb_caller.specs.Mine.{IsBringing, IsImported, IsImportedAt, IsTextOf, IsUndone, IsUsed, IsWritten, kind_of};
+ghost use Rattle.tb_caller.specs.Mine.{IsBringing, IsImported, IsImportedAt, IsTextOf, IsUndone, IsUndoneIn, IsUsed, IsWritten, kind_of};
 ghost use Rattle.tb_caller.specs.Faults.{is_of_mine};
 ghost use Rattle.tb_mine.specs.Asked.{Asked};
 
@@ -22,7 +22,7 @@ use tb_my::{
 };
 use tb_orders::{Chance, Ending, parts_of};
 use tb_program::{Fault, print_line};
-use tb_sending::{KeyFolder, MachineDial, ServerLine};
+use tb_sending::{Folder, KeyFolder, MachineDial, ServerLine};
 use tb_values::{Items, Text};
 
 /// What takes back the last calls, in the folder of the key.
@@ -55,9 +55,11 @@ pub(crate) fn keep_undo(
     if line.is_empty() {
         return Ok(());
     }
-    let Some(folder) = KeyFolder::at_home(rt) else {
+    let Some(mut folder) = KeyFolder::at_home(rt) else {
         return Ok(());
     };
+    let _ = folder.make();
+    folder.hold();
     if kept.is_empty() {
         *kept = undo_head(rt.alloc(), asker.server.as_str(), asker.name.as_str())?;
         if let Some(text) = folder.private_text(UNDO) {
@@ -66,7 +68,6 @@ pub(crate) fn keep_undo(
     }
     kept.push_str(line.as_str())?;
     let all = kept_over(rt.alloc(), kept, before)?;
-    let _ = folder.make();
     let _ = folder.put(UNDO, all.as_str());
     Ok(())
 }
@@ -84,10 +85,27 @@ pub(crate) fn undo<G: Chance, W: Write>(
         caller.old.asker asked is_accepted) }
     ensures fault { IfErr result (λ fault. is_of_mine fault ≡ true) }
 {
-    let Some(folder) = KeyFolder::at_home(rt) else {
-        return Ok(refuse(rt, NO_HOME));
-    };
-    let Some(kept) = folder.private_text(UNDO) else {
+    match KeyFolder::at_home(rt) {
+        Some(mut folder) => undo_in(rt, caller, &mut folder, writer),
+        None => Ok(refuse(rt, NO_HOME)),
+    }
+}
+
+/// The same over the folder of the key, in which they are forgotten then.
+fn undo_in<F: Folder, G: Chance, W: Write>(
+    rt: &HostRuntime,
+    caller: &mut Caller<'_, G>,
+    folder: &mut F,
+    writer: &mut W,
+) -> Result<bool, Fault>
+    ensures asked { IfOk result (λ is_accepted. (asked : List Asked)
+        × IsAskedBy ⟦<ServerLine<MachineDial<'static>> as Line>⟧.follows G.gives
+        asked caller.old caller.new
+        × IsUndoneIn F.has folder.old folder.new (W.contents writer.old) (W.contents writer.new)
+        caller.old.asker asked is_accepted) }
+    ensures fault { IfErr result (λ fault. is_of_mine fault ≡ true) }
+{
+    let Some(kept) = folder.text(UNDO) else {
         return Ok(refuse(rt, NOTHING));
     };
     let server = caller.asker.server.as_str();
@@ -99,12 +117,12 @@ pub(crate) fn undo<G: Chance, W: Write>(
     }
     let rest = kept_rest(rt.alloc(), kept.as_str())?;
     if all.is_empty() {
-        let _ = folder.put(UNDO, rest.as_str());
+        folder.put(UNDO, rest.as_str())?;
         return Ok(false);
     }
     let errors = &mut rt.stderr();
     let is_accepted = take_back(rt.alloc(), caller, all.as_slice(), writer, errors)?;
-    let _ = folder.put(UNDO, rest.as_str());
+    folder.put(UNDO, rest.as_str())?;
     Ok(is_accepted)
 }
 

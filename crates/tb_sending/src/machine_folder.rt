@@ -79,10 +79,21 @@ impl<'a> KeyFolder<'a> {
     pub fn put(&self, name: &str, text: &str) -> Result<(), Fault>
         ensures fault { IfErr result (λ fault. is_of_sending fault ≡ true) }
     {
+        let _locked = self.lock_unless_held();
         match self.replace(name, text) {
             Ok(()) => Ok(()),
             Err(_) => Err(Fault::Store),
         }
+    }
+
+    /// Waits until no other process has the folder, where this one hasn't it: all write `key.next`.
+    fn lock_unless_held(&self) -> Option<File> {
+        if self.held.is_some() {
+            return None;
+        }
+        let folder = File::open(self.rt, self.path.as_str()).ok()?;
+        let _ = folder.lock();
+        Some(folder)
     }
 
     /// Gives a file this text. At each moment it has its old one or the new one.
