@@ -258,10 +258,11 @@ def check_deeds():
 
 
 def check_my_words():
-    """The same of the words of `my`: the section of `tb`, the help, the man page and the completion."""
-    words = set(re.findall(r'(?m)^ +"([a-z]+)" => MyWord::', (TOP / "crates/tb_my/src/word.rt").read_text()))
+    """The words of `my`, each by one of its names: in the help, the man page and the completion. Words after `tb` in USING are words of `my`."""
+    arms = re.findall(r'(?m)^ +((?:"[a-z]+" \| )*"[a-z]+") => MyWord::', (TOP / "crates/tb_my/src/word.rt").read_text())
+    words = [re.findall(r"[a-z]+", arm) for arm in arms]
+    known = {name for names in words for name in names}
     section = (TOP / "docs/USING.md").read_text().partition("\n## tb\n")[2].partition("\n## ")[0]
-    read = set(re.findall(r"`([a-z]+)`", section))
     help_text = (TOP / "crates/tb_command_line/src/help.rt").read_text().partition("\ntaskboard my ")[2].partition("\n    N, M ")[0]
     told = set(re.findall(r"[a-z]+", re.sub(r"(?m)  .*$", "", re.sub(r"(?m)^    ", "", help_text))))
     page = (TOP / "contrib/man/taskboard.1").read_text().partition("\n.B my")[2].partition("\n.TP\n")[0]
@@ -269,9 +270,13 @@ def check_my_words():
     offered = set(shell[1].split()) if shell else set()
     if not words:
         faults.append("crates/tb_my/src/word.rt names no words")
-    for place, named in (("docs/USING.md", read), ("the help of my", told), ("contrib/man/taskboard.1", set(re.findall(r"[a-z]+", page))), ("contrib/completion/taskboard.bash", offered)):
-        faults.extend(f"{place} lacks the word {word} of my" for word in sorted(words - named))
-    faults.extend(f"contrib/completion/taskboard.bash offers {word}, which is no word of my" for word in sorted(offered - words))
+    for place, named in (("the help of my", told), ("contrib/man/taskboard.1", set(re.findall(r"[a-z]+", page))), ("contrib/completion/taskboard.bash", offered)):
+        faults.extend(f"{place} lacks the word {names[0]} of my" for names in words if not named.intersection(names))
+    faults.extend(f"contrib/completion/taskboard.bash offers {word}, which is no word of my" for word in sorted(offered - known - {"help"}))
+    used = set(re.findall(r"(?m)(?:^    |`)tb ([a-z]+)", section))
+    if not used:
+        faults.append("docs/USING.md shows no word of my")
+    faults.extend(f"docs/USING.md shows tb {word}, which is no word of my" for word in sorted(used - known - {"help"}))
 
 
 def check_routes():
