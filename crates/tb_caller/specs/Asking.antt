@@ -41,7 +41,7 @@ module _ {M G : Type 0} (follows : List Event → ServerLine M → ServerLine M 
   abbrev pub AreSentBy : Asker → Option Text → List Asked → G → G → Type 0
   AreSentBy asker key [] first last = last ≡ first
   AreSentBy asker key (asked ∷ more) first last = IsSentBy asker key asked first
-      × ((next : G) × AreSentBy asker key more next last)
+      × (next : G) × AreSentBy asker key more next last
 
   -- all of it was sent, and the caller asks whom it asked before, under the same key
   abbrev pub IsAskedBy : List Asked → Caller G → Caller G → Type 0

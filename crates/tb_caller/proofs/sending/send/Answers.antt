@@ -1,5 +1,3 @@
-use Rattle.std.proofs.Common.{inl, inr}
-use Rattle.std.specs.Prelude.{◌⊎◌}
 use Rattle.std.proofs.lemmas.Result.{IfErr-weaker, IfOk-weaker}
 use Rattle.tb_caller.proofs.Lines.{cut_over}
 use Rattle.tb_caller.proofs.sending.send.Goals as goal

@@ -4,7 +4,7 @@ use Rattle.tb_caller.specs.Sent.{IsSentOver}
 use Rattle.tb_caller.proofs.mine.CallerAsks.ask.Goals as goal
 
 pub returns-in-Ok-clause-asked : goal.returns-in-Ok-clause-asked
-returns-in-Ok-clause-asked c =
+returns-in-Ok-clause-asked g c =
     let sent = c.in-Ok.ensures.sent in (
       refl,
       refl,
@@ -15,7 +15,7 @@ returns-in-Ok-clause-asked c =
           member = search rules;
           under = search rules;
           words = search rules;
-          call = called_by _ c.args.call c.name_call.old.order c.name_call.new.order c.name_call.old.chance c.name_call.new.chance (search rules) c.name_call.ensures.given c.name_call.ensures.random;
+          call = called_by g.G.Chance.gives c.args.call _ c.name_call.new.order c.args.self.now.chance c.name_call.new.chance refl c.name_call.ensures.given c.name_call.ensures.random;
           before = c.new-body.result;
           after = c.send_order.new.writer;
           none = c.new-body.ensures.items;
