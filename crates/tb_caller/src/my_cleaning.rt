@@ -4,8 +4,8 @@ ghost use Rattle.tb_caller.specs.Mine.{IsChecked, IsCleanText};
 ghost use Rattle.tb_caller.specs.Faults.{is_of_mine};
 ghost use Rattle.tb_cleaning.specs.Cleaning.{Cleans};
 
-use crate::notes::tell_notes;
 use crate::my_deeds::{UNREAD, kind_of, refuse, text_of};
+use crate::notes::tell_notes;
 use std::io::{Read, Write};
 use tb_cleaning::{Cleaned, CleaningFault, clean};
 use tb_command_line::ImportKind;
