@@ -42,12 +42,12 @@ parts() {
 644 share/doc/taskboard/SECURITY.md SECURITY.md
 644 share/doc/taskboard/LICENSE LICENSE
 PARTS
-    for path in "$contrib"/*/* "$contrib"/*/taskboard_*/*.py "$top"/page/* "$top"/docs/*; do
+    for path in "$contrib"/*/* "$contrib"/*/taskboard_*/*.py "$top"/page/* "$top"/page/*/* "$top"/docs/*; do
         [ -f "$path" ] || continue
         name=${path##*/}
         source=${path#"$top"/}
         case $source in
-        page/*) echo "644 share/taskboard/page/$name $source" ;;
+        page/*) echo "644 share/taskboard/$source $source" ;;
         docs/*) echo "644 share/doc/taskboard/docs/$name $source" ;;
         contrib/*/taskboard_*/*.py) echo "644 lib/taskboard/${source#contrib/*/} $source" ;;
         contrib/debian/*) ;;

@@ -1,5 +1,14 @@
 // Begins the page, and has the worker keep its files on this device. A browser has workers on https and on the loopback alone; elsewhere the
 // page comes from the server each time. This file needs no other one, so that it can say where one doesn't come.
+// The name and the key of a link that invites stand behind the #, which no browser sends, and are taken out of the address at once.
+function takeInvitation() {
+    const [, name, key] = /^#in=([a-z0-9_-]+)\.((?:[\w.~!*'()-]|%[0-9A-F]{2})+)$/.exec(location.hash) ?? [];
+    if (location.hash.startsWith("#in=")) history.replaceState(null, "", location.pathname);
+    return name ? { name, key: decodeURIComponent(key) } : null;
+}
+
+export const invitation = takeInvitation();
+
 const HOUR = 3600000;
 // How often a page that stays open asks whether the server has another version, in milliseconds: by the worker's file alone, which says what
 // the others contain.
@@ -47,4 +56,4 @@ export async function beginOffline() {
     }
 }
 
-import("./main.js").then(() => sessionStorage.removeItem(TRIES), loadAnew);
+import("./views/main.js").then(() => sessionStorage.removeItem(TRIES), loadAnew);

@@ -4,15 +4,15 @@
 // A browser asks for the worker at each start, and a page that stays open every few minutes; it is installed anew where a byte of it differs. The
 // next line, made by tests/page/page_content.py, differs with every other file, so a new version is found then, also where its files are as long as
 // before.
-// Content of the other files: 331600dfa5cf84eae8df457bf0d177eec271ea3db7de44c6ede2080892925b8a
+// Content of the other files: 64cb11f98cfd892ffc1e29d910f4f06ad5bdac48470acd17060c054ce4351e72
 
 const VERSION = "taskboard ";
-const FILE = /^\/(?:[a-z0-9_.-]+\.(?:html|css|js|svg|png|ico))?$/;
+const FILE = /^\/(?:(?:[a-z0-9_-]+\/)?[a-z0-9_.-]+\.(?:html|css|js|svg|png|ico))?$/;
 // Where a version has the moment when it was last compared with the server's files whole, and how long that lasts, in milliseconds.
 const COMPARED = "/kept/compared";
 const DAY = 86400000;
-// Which files a file names: those of the page, and the modules that a module imports.
-const NAMES = /(?:\b(?:href|src)="|\b(?:from|import)[ (]?"\.\/)([a-z0-9_.-]+)"/g;
+// Which files a file names: those of the page, and the modules that a module imports, each from where it stands.
+const NAMES = /(?:\b(?:href|src)="|\b(?:from|import)[ (]?"(?=\.))([a-z0-9_./-]+)"/g;
 const MARKS = ["etag", "last-modified", "content-length"];
 
 // Which version each window was opened with, so that it never gets a module of another one.
@@ -28,7 +28,7 @@ async function load(path) {
 
 function namedBy({ path, bytes }) {
     if (path !== "/" && !path.endsWith(".js")) return [];
-    return [...new TextDecoder().decode(bytes).matchAll(NAMES)].map(([, name]) => `/${name}`);
+    return [...new TextDecoder().decode(bytes).matchAll(NAMES)].map(([, name]) => new URL(name, location.origin + path).pathname);
 }
 
 // All files as the server has them, from the first on, and the name of that version.
@@ -39,7 +39,7 @@ async function loadAll() {
         for (const file of loaded) files.set(file.path, file);
         wanted = [...new Set(loaded.flatMap(namedBy))].filter((path) => FILE.test(path) && !files.has(path));
     }
-    if (!files.has("/main.js")) throw new Error("what came isn't the page");
+    if (!files.has("/views/main.js")) throw new Error("what came isn't the page");
     const inOrder = [...files.values()].sort((one, other) => (one.path < other.path ? -1 : 1));
     const parts = inOrder.flatMap(({ path, bytes }) => [`${path} ${bytes.byteLength}\n`, bytes]);
     const digest = await crypto.subtle.digest("SHA-256", await new Blob(parts).arrayBuffer());

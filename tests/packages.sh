@@ -16,6 +16,8 @@ strace strace
 cc gcc libc6-dev
 nginx nginx libnginx-mod-http-lua
 ip iproute2
+node nodejs
+tsc node-typescript
 openssl openssl
 sshd openssh-server
 task taskwarrior

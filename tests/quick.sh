@@ -51,6 +51,9 @@ attempt() {
 }
 
 of_pages() {
+    attempt page/modules.py python3
+    attempt page/units.sh node
+    attempt page/copies.sh node
     attempt page/page.sh python3
     attempt serve/wire.py python3
     attempt crash/sums.py python3

@@ -247,12 +247,12 @@ def check_words():
 def check_deeds():
     """Each deed of a history has its words on the page, and a name in the page's filter."""
     deeds = set(re.findall(r'(?m)^ +DeedKind::\w+ => "([a-z-]+)"', (TOP / "crates/tb_deeds/src/kind.rt").read_text()))
-    page = (TOP / "page/deeds.js").read_text()
+    page = (TOP / "page/views/deed.js").read_text()
     told = set(re.findall(r'(?m)^    "?([a-z-]+)"?: \(', page.partition("\nconst TOLD = {")[2].partition("\n};")[0]))
     filters = set(re.findall(r'"?([a-z-]+)"?: "', page.partition("\nexport const WORDS = {")[2].partition("};")[0]))
     if not deeds:
         faults.append("crates/tb_deeds/src/kind.rt names no deeds")
-    for place, named in (("TOLD of page/deeds.js", told), ("WORDS of page/deeds.js", filters)):
+    for place, named in (("TOLD of page/views/deed.js", told), ("WORDS of page/views/deed.js", filters)):
         faults.extend(f"{place} lacks the deed {deed}" for deed in sorted(deeds - named))
         faults.extend(f"{place} has {deed}, which is no deed" for deed in sorted(named - deeds))
 

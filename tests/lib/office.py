@@ -19,12 +19,13 @@ BROWSER, PROGRAM, PORT, SLACK, PAGE = sys.argv[1], sys.argv[2], int(sys.argv[3])
 SHOTS = os.environ.get("SHOTS")
 KEYS = {"ann": "ann-key-1", "bob": "bob-key-01"}
 ENTER, ESCAPE, TAB, UP, DOWN, BACKSPACE = "\ue007", "\ue00c", "\ue004", "\ue013", "\ue015", "\ue003"
-ALL_ANSWERED = "return document.getElementById('state').textContent === 'All is answered'"
+# (where nothing waits something may still need its person)
+ALL_ANSWERED = "return /^(All saved|[0-9,]+ things? needs? you)$/.test(document.getElementById('state').textContent)"
 LISTED = "return [...document.querySelectorAll('#list .open')].map((row) => row.textContent)"
 IS_LISTED = "return [...document.querySelectorAll('#list .open')].some((row) => row.textContent === arguments[0])"
 IS_TOLD = "return document.body.innerText.includes(arguments[0])"
 # Who is signed in, or that nobody is, once the page shows one of them.
-SHOWN = "return document.getElementById('sign-in-form').offsetParent ? 'sign in' : document.getElementById('who').textContent"
+SHOWN = "return document.getElementById('sign-in-form')?.offsetParent ? 'sign in' : document.getElementById('who')?.textContent"
 # What a page has loaded of its own files: each with its status, its length and whether the worker gave it.
 LOADED = """return JSON.stringify([document.readyState, navigator.serviceWorker?.controller?.state,
     ...performance.getEntriesByType('resource').map((one) => [one.name, one.responseStatus, one.decodedBodySize, one.workerStart > 0])])"""
@@ -95,13 +96,13 @@ class Office:
 
     def sign_in(self, name, key=None):
         self.browser.open(self.address)
-        self.browser.wait("return document.getElementById('sign-in-form').offsetParent")
+        self.browser.wait("return document.getElementById('sign-in-form')?.offsetParent")
         self.browser.type("#name", name)
         self.browser.type("#key", (key or KEYS[name]) + ENTER)
 
     def enter(self, name):
         self.sign_in(name)
-        self.browser.wait("return document.getElementById('count').textContent")
+        self.browser.wait("return document.getElementById('count')?.textContent")
 
     def begin(self, board, name="ann"):
         """Loads the page anew at a board, and signs in where that has to be."""
@@ -127,7 +128,7 @@ class Office:
         self.browser.run("location.hash = arguments[0]", f"/{board}/{view}" + (f"/{task}" if task else ""))
         self.browser.wait(f"return !document.getElementById('{view}-view').hidden")
         if view == "tasks":
-            self.browser.wait("return document.getElementById('count').textContent")
+            self.browser.wait("return document.getElementById('count')?.textContent")
 
     def shot(self, name):
         """Pictures of what is shown, wide and narrow; the layout fits in each, and at 320 too."""

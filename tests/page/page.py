@@ -7,6 +7,7 @@ import json
 import os
 import pathlib
 import random
+import re
 import statistics
 import subprocess
 import sys
@@ -20,10 +21,11 @@ import page_files
 import page_history
 import page_judging
 import page_keys
+import page_look
 import page_several
 import page_views
 import page_words
-from office import ALL_ANSWERED, BACKSPACE, BROWSER, DOWN, ENTER, IS_LISTED, IS_TOLD, KEYS, LISTED, LOOK, PROGRAM, SHOTS, SLACK, Office, add, ask, descriptions, expect, new_board, tasks, tell
+from office import ALL_ANSWERED, BACKSPACE, BROWSER, DOWN, ENTER, IS_LISTED, IS_TOLD, KEYS, LISTED, LOOK, PAGE, PROGRAM, SHOTS, SLACK, Office, add, ask, descriptions, expect, new_board, tasks, tell
 from relay import LOSES_ANSWERS, LOSES_POSTS
 from talking import end_by_signal, make_file
 from webdriver import STRANGER, Browser
@@ -76,8 +78,11 @@ def first_steps(office):
     browser = office.browser
     office.sign_in("ann", "another-key")
     browser.wait(IS_TOLD, "doesn't know this name with this key")
+    expect_release(browser)
     office.shot("sign-in")
-    office.enter("ann")
+    office.sign_in("Ann ", KEYS["ann"] + " ")
+    browser.wait("return document.getElementById('count')?.textContent")
+    expect("who is in", "ann", browser.run("return document.getElementById('who').textContent"))
     browser.press("n")
     expect("where a key leads after signing in", "add-line", browser.run("return document.activeElement.id"))
     for line in ("(A) Call Mom +Family @phone due:2026-01-31", "Buy milk @shop", "Paint the fence"):
@@ -107,10 +112,17 @@ def first_steps(office):
     office.shot("tasks")
 
 
+def expect_release(browser):
+    """The sign-in names the newest release, as the changes head it."""
+    changes = (pathlib.Path(PAGE).parent / "CHANGELOG.md").read_text()
+    newest = re.search(r"^## (.*)$", changes, re.MULTILINE)[1]
+    expect("the release", f"Release {newest}", browser.run("return document.getElementById('release').innerText"))
+
+
 def by_keyboard(browser):
     """Completes the second task by keys alone, and takes that back."""
     browser.run("document.querySelector('#list .open').focus()")
-    browser.press(DOWN, "d")
+    browser.press(DOWN, "e")
     browser.wait("return document.querySelectorAll('#list .row').length === 2")
     browser.wait(ALL_ANSWERED)
     expect("done", "completed", tasks(1)[1]["status"])
@@ -147,7 +159,7 @@ def people(office):
     browser = office.browser
     office.go(1, "people")
     browser.wait("return document.querySelectorAll('#people li').length === 1")
-    browser.type("#person-name", "bob")
+    browser.type("#person-name", "Bob ")
     browser.type("#person-key", KEYS["bob"] + ENTER)
     browser.wait("return document.querySelectorAll('#people li').length === 2")
     browser.wait(ALL_ANSWERED)
@@ -182,18 +194,18 @@ def killed_server(office):
     browser.type("#add-line", "Acts before the kill" + ENTER)
     relay.lost.wait(browser.patience)
     office.server.end()
-    browser.wait(IS_TOLD, "1 change isn't answered yet")
+    browser.wait(IS_TOLD, "1 change waits here")
     browser.type("#add-line", "Is made while nobody is there" + ENTER)
-    browser.wait(IS_TOLD, "2 changes aren't answered yet")
+    browser.wait(IS_TOLD, "2 changes wait here")
     browser.run("document.querySelector('#list .tick').click()")
-    browser.wait(IS_TOLD, "3 changes aren't answered yet")
+    browser.wait(IS_TOLD, "3 changes wait here")
     browser.click("#state")
     office.shot("unanswered")
     office.start()
     relay.break_off(LOSES_POSTS)
     browser.open("about:blank")
     browser.open(office.address)
-    browser.wait(IS_TOLD, "3 changes aren't answered yet")
+    browser.wait(IS_TOLD, "3 changes wait here")
     expect("before they are sent again", 1, descriptions(1).count("Acts before the kill"))
     relay.heal()
     browser.run("dispatchEvent(new Event('online'))")
@@ -222,13 +234,13 @@ def two_tabs(office):
     browser.type("#add-line", "First" + ENTER)
     browser.new_tab()
     office.enter("ann")
-    browser.wait(IS_TOLD, "1 change isn't answered yet")
+    browser.wait(IS_TOLD, "1 change waits here")
     browser.type("#add-line", "Second" + ENTER)
-    browser.wait(IS_TOLD, "2 changes aren't answered yet")
+    browser.wait(IS_TOLD, "2 changes wait here")
     other = browser.call("GET", "/window")
     browser.to_tab(anns)
     browser.type("#add-line", "Third" + ENTER)
-    browser.wait(IS_TOLD, "3 changes aren't answered yet")
+    browser.wait(IS_TOLD, "3 changes wait here")
     relay.heal()
     browser.run("dispatchEvent(new Event('online'))")
     browser.wait(ALL_ANSWERED)
@@ -276,7 +288,7 @@ def hostile_texts(office):
         uuid_of = add(board, description=text, project=text, tags=[tag], own=text)
         ask(f"/boards/{board}/tasks/{uuid_of}/annotate", json.dumps({"description": text}).encode())
     browser.open(office.address)
-    browser.wait("return document.getElementById('count').textContent")
+    browser.wait("return document.getElementById('count')?.textContent")
     office.go(board)
     browser.wait("return document.querySelectorAll('#list .row').length === arguments[0]", len(code + turned + long))
     heights = set(browser.run("return [...document.querySelectorAll('#list .row')].map((row) => row.offsetHeight)"))
@@ -289,7 +301,7 @@ def hostile_texts(office):
         wide = browser.run("return document.documentElement.scrollWidth")
         expect("wider than the window", False, wide > 1280)
     office.shot("hostile-task")
-    expect("scripts and images", [1, 2], browser.run("return [document.scripts.length, document.images.length]"))
+    expect("scripts and images", [1, 1], browser.run("return [document.scripts.length, document.images.length]"))
     expect("code ran", None, browser.run("return window.ran ?? null"))
     browser.click("#close-panel")
 
@@ -335,6 +347,9 @@ def imports(office):
     [file] = saved_files("Taken-in-*.json", browser.patience)
     expect("the export as a file", ask(f"/boards/{board}/export"), file.read_text())
     browser.wait("return document.querySelectorAll('#notices button').length === 2")
+    # (they would be told on every board)
+    browser.run("document.querySelectorAll('#notices button').forEach((away) => away.click())")
+    browser.wait("return document.querySelectorAll('#notices li').length === 0")
 
 
 def saved_files(pattern, patience):
@@ -457,8 +472,9 @@ def last_steps(office):
     browser = office.browser
     browser.click("#sign-out")
     browser.wait("return document.getElementById('sign-in-form').offsetParent")
+    expect_release(browser)
     expect("what is kept but filters", [[], []], browser.run("return [sessionStorage, localStorage].map((place) => Object.keys(place).filter((key) => !/ (filters|looked)$/.test(key)))"))
-    kept = browser.run("return JSON.stringify({ ...localStorage })")
+    kept = browser.run(page_words.DEVICE)
     expect("the key, and what was searched for", [False, False], [KEYS["ann"] in kept, "text=" in kept])
     told = [message for message in browser.messages() if "Failed to load resource" not in message]
     expect("faults", [], told)
@@ -470,6 +486,7 @@ SCENES = (
     *page_files.SCENES,
     *page_judging.SCENES,
     *page_views.SCENES,
+    *page_look.SCENES,
     *page_several.SCENES,
     *page_day.SCENES,
     *page_words.SCENES,

@@ -77,11 +77,11 @@ def overdue(office):
         at(office, zone, board)
         browser.wait(IS_LISTED, "Today 14")
         listed = browser.run(DUE)
-        shown = {name: [due.split()[-1], late] for name, due, late in listed}
+        shown = {name: [due.split()[-1].lower(), late] for name, due, late in listed}
         # Past midnight the days have moved on since they were reckoned.
         if (datetime.datetime.now(datetime.timezone.utc) + datetime.timedelta(hours=hours)).date() == (now + datetime.timedelta(hours=hours)).date():
             expect(f"{hours} hours from UTC", [["today", False], ["yesterday", True]], [shown[f"{name} {hours}"] for name in ("Today", "Yesterday")])
-            expect(f"a time {hours} hours from UTC", [True], [due.endswith("today, 12:34") for name, due, _ in listed if name == f"Timed {hours}"])
+            expect(f"a time {hours} hours from UTC", [True], [due.lower().endswith("today, 12:34") for name, due, _ in listed if name == f"Timed {hours}"])
 
 
 def repeats(office):
@@ -113,6 +113,25 @@ def repeats(office):
     browser.wait(IS_LISTED, "A wrong year")
     browser.wait(ALL_ANSWERED)
     ending(office, board)
+    repeat_before_due(office)
+
+
+def repeat_before_due(office):
+    """A repeat may be typed before its due date, in its field or in the line: once that is there nothing is wrong any more."""
+    browser, board = office.browser, new_board("Repeat first")
+    office.begin(board)
+    browser.click("#add-more")
+    for title, typed in (("By the field", "By the field"), ("By the line", "By the line due:tomorrow")):
+        browser.type("#add-fields input[placeholder=weekly]", "weekly")
+        browser.wait(IS_TOLD, "A repeating task needs a due date.")
+        if typed == title:
+            set_day(browser, "Due", str(datetime.date.today() + datetime.timedelta(days=3)))
+        browser.type("#add-line", typed)
+        expect("told of a fault", False, browser.run(IS_TOLD, "A repeating task needs a due date."))
+        browser.type("#add-line", ENTER)
+        browser.wait(IS_LISTED, title)
+    browser.wait(ALL_ANSWERED)
+    expect("statuses", ["recurring", "pending"] * 2, [task["status"] for task in tasks(board)])
 
 
 # The pickers that are narrower than they would be by themselves.

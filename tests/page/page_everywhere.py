@@ -17,10 +17,10 @@ KEPT = """return caches.keys().then(async (names) => {
     return [names.length, caught.flat().map(({ url }) => new URL(url).pathname).sort()];
 })"""
 IS_CONTROLLED = "return Boolean(navigator.serviceWorker.controller)"
-# Once what the page has seen last stands on the device.
+# Once the copy of a board stands on the device.
 IS_SEEN = """return new Promise((done) => {
-    indexedDB.open("taskboard-seen").onsuccess = ({ target }) => {
-        target.result.transaction("texts").objectStore("texts").getAllKeys().onsuccess = ({ target }) => done(target.result.includes(arguments[0]));
+    indexedDB.open("taskboard-copies", 1).onsuccess = ({ target }) => {
+        target.result.transaction("boards").objectStore("boards").getAllKeys().onsuccess = ({ target }) => done(target.result.includes(arguments[0]));
     };
 })"""
 HAS_FOCUS = "return document.activeElement !== null && document.activeElement !== document.body"
@@ -44,20 +44,20 @@ def without_a_line(office):
     office.begin(board)
     browser.wait(IS_LISTED, "Read on the way")
     browser.wait(IS_CONTROLLED)
-    browser.wait(IS_SEEN, f"ann /boards/{board}/export")
+    browser.wait(IS_SEEN, f"ann {board}")
     office.relay.asked.clear()
     office.begin(board)
     browser.wait(IS_LISTED, "Read on the way")
     expect("files loaded at a second start", [], files_asked(office))
-    names = {"/" if file.name == "index.html" else f"/{file.name}" for file in pathlib.Path(PAGE).iterdir()}
-    expect("files that are kept", [1, sorted(names - {"/worker.js"} | {"/kept/compared"})], browser.run(KEPT))
+    names = {"/" if path == "index.html" else f"/{path}" for path in page_content.files_of(pathlib.Path(PAGE))}
+    expect("files that are kept", [1, sorted(names - {"/worker.js", "/types.js"} | {"/kept/compared"})], browser.run(KEPT))
     office.server.end()
     browser.open("about:blank")
     browser.open(f"{office.address}#/{board}/tasks")
     browser.wait(IS_LISTED, "Read on the way")
     browser.wait(IS_TOLD, "The tasks are shown as they were seen here")
     browser.type("#add-line", "Written on the way" + ENTER)
-    browser.wait(IS_TOLD, "1 change isn't answered yet")
+    browser.wait(IS_TOLD, "1 change waits here")
     office.shot("without-a-line")
     office.go(board, "history")
     browser.wait(IS_TOLD, "The server doesn't answer. The history comes when it does.")
@@ -80,13 +80,13 @@ def seen_beside(office):
     add(board, description="Seen before")
     office.begin(board)
     browser.wait(IS_LISTED, "Seen before")
-    browser.wait(IS_SEEN, f"ann /boards/{board}/export")
+    browser.wait(IS_SEEN, f"ann {board}")
     [anns] = browser.tabs()
     browser.new_tab()
     office.begin(board, "bob")
-    browser.wait(IS_SEEN, f"bob /boards/{board}/export")
+    browser.wait(IS_SEEN, f"bob {board}")
     browser.click("#sign-out")
-    browser.wait(f"return new Promise((done) => setTimeout(done, 100)).then(() => {{ {IS_SEEN} }}).then((is) => !is)", f"bob /boards/{board}/export")
+    browser.wait(f"return new Promise((done) => setTimeout(done, 100)).then(() => {{ {IS_SEEN} }}).then((is) => !is)", f"bob {board}")
     browser.call("DELETE", "/window")
     browser.to_tab(anns)
     office.server.end()
@@ -98,11 +98,11 @@ def seen_beside(office):
 
 
 # Takes the copies of views off the device.
-FORGET = """return new Promise((done) => (indexedDB.open("taskboard-seen", 1).onsuccess = ({ target }) => {
-    const all = target.result.transaction(["texts", "moments"], "readwrite");
+FORGET = """return Promise.all(["taskboard-seen", "taskboard-copies"].map((name) => new Promise((done) => (indexedDB.open(name, 1).onsuccess = ({ target }) => {
+    const all = target.result.transaction([...target.result.objectStoreNames], "readwrite");
     for (const name of all.objectStoreNames) all.objectStore(name).clear();
-    all.oncomplete = () => done(true);
-}))"""
+    all.oncomplete = done;
+})))).then(() => true)"""
 
 
 def without_copies(office):
@@ -132,7 +132,7 @@ def newer_version(office):
     shutil.copytree(PAGE, office.page)
     index = pathlib.Path(office.page, "index.html")
     index.write_text(index.read_text().replace("<title>", '<link rel="help" href="renewed.svg"><title>'))
-    shutil.copy(f"{PAGE}/icon.svg", f"{office.page}/renewed.svg")
+    shutil.copy(f"{PAGE}/icons/icon.svg", f"{office.page}/renewed.svg")
     office.restart()
     office.begin(board)
     expect("files of the version before", 0, browser.run("return document.querySelectorAll('link[rel=help]').length"))
@@ -155,8 +155,8 @@ def as_long_as_before(office, board):
     browser = office.browser
     office.page = "page-as-long"
     shutil.copytree(PAGE, office.page)
-    index = pathlib.Path(office.page, "index.html")
-    index.write_text(index.read_text().replace('placeholder="Add a task"', 'placeholder="Put a task"'))
+    view = pathlib.Path(office.page, "views/addline.js")
+    view.write_text(view.read_text().replace('placeholder="Add a task"', 'placeholder="Put a task"'))
     page_content.write(pathlib.Path(office.page))
     for page in (office.page, PAGE):
         office.page = page
@@ -197,12 +197,12 @@ def by_keys(office):
         ((), "document.querySelector('#list .open[tabindex=\"0\"]').focus(); return true"),
         ((ENTER,), IS_OPEN),
         (("m", *"Tea", ENTER), "return document.querySelectorAll('#task-notes li').length > 0"),
-        ((TAB, "e"), "return document.activeElement.tagName === 'TEXTAREA'"),
+        ((TAB, "f"), "return document.activeElement.tagName === 'TEXTAREA'"),
         ((ESCAPE,), "return document.getElementById('edit-form').hidden"),
         ((ESCAPE,), "return document.getElementById('panel').hidden"),
-        (("d",), "return document.querySelectorAll('#list .row').length === 2"),
-        (("d",), "return document.querySelectorAll('#list .row').length === 1"),
-        (("d",), "return document.querySelectorAll('#list .row').length === 0"),
+        (("e",), "return document.querySelectorAll('#list .row').length === 2"),
+        (("e",), "return document.querySelectorAll('#list .row').length === 1"),
+        (("e",), "return document.querySelectorAll('#list .row').length === 0"),
     ):
         browser.press(*keys)
         browser.wait(done)
@@ -222,8 +222,8 @@ def held_key(office):
     browser.wait(IS_LISTED, "Second")
     browser.run("document.querySelector('#list .open').focus()")
     for repeats in (False, True, True, True):
-        browser.tell("Input.dispatchKeyEvent", type="keyDown", key="d", text="d", autoRepeat=repeats)
-    browser.tell("Input.dispatchKeyEvent", type="keyUp", key="d")
+        browser.tell("Input.dispatchKeyEvent", type="keyDown", key="e", text="e", autoRepeat=repeats)
+    browser.tell("Input.dispatchKeyEvent", type="keyUp", key="e")
     browser.wait("return document.querySelectorAll('#list .row').length === 1")
     browser.wait(ALL_ANSWERED)
     told = json.loads(ask(f"/boards/{board}/history"))["entries"]
@@ -316,7 +316,7 @@ def keeps_its_button(office):
     browser.wait(ALL_ANSWERED)
     expect("focus after Save", "Edit", browser.run(focused))
     expect("saved", ["Slowly but well", "pending"], [tasks(board)[0][name] for name in ("description", "status")])
-    browser.press("e", *", too")
+    browser.press("f", *", too")
     press(browser, ENTER, held=CONTROL)
     browser.wait("return document.getElementById('task-text').textContent === 'Slowly but well, too' && document.getElementById('edit-form').hidden")
     browser.press("?")
@@ -350,7 +350,7 @@ def gone_by_keys(office, board, task):
 # From here on counts what is written into an element, and the news that the page's parts hear of.
 WRITTEN = """window.written = 0;
 new MutationObserver((all) => (window.written += all.length)).observe(document.querySelector(arguments[0]), { childList: true, subtree: true, characterData: true });"""
-HEAR = "const [name, detail] = arguments; return import('./state.js').then(({ announce }) => announce(name, detail)).then(() => new Promise((done) => setTimeout(done, 100)))"
+HEAR = "const [name, detail] = arguments; return import('/core/news.js').then(({ announce }) => announce(name, detail)).then(() => new Promise((done) => setTimeout(done, 100)))"
 
 
 def read_out_once(office):
@@ -401,12 +401,26 @@ def on_paper(office):
     pages = len(re.findall(rb"/Type ?/Page\b", paper))
     expect("pages, of which each has some rows", True, 2 <= pages <= 12)
     browser.tell("Emulation.setEmulatedMedia", media="print")
-    shown = browser.run("return [...document.querySelectorAll('#panel, header, form, button:not(.open, .tick)')].filter((part) => part.checkVisibility()).length")
+    shown = browser.run("return [...document.querySelectorAll('#panel, nav, form, header > :not(h1), button:not(.open, .tick, .value)')].filter((part) => part.checkVisibility()).length")
     expect("panels, forms and buttons on paper", 0, shown)
     if SHOTS:
         pathlib.Path(SHOTS, "print.pdf").write_bytes(paper)
     browser.tell("Emulation.setEmulatedMedia", media="")
     browser.click("#close-panel")
+    columns_on_paper(browser)
+
+
+def columns_on_paper(browser):
+    """All four columns stand on a page, and none has a bar to scroll it."""
+    browser.click("#as-columns")
+    browser.wait("return document.querySelectorAll('#columns .card').length > 0")
+    browser.tell("Emulation.setEmulatedMedia", media="print")
+    browser.size(720, 1000)
+    cut = "return [...document.querySelectorAll('#columns, .column, .column ul')].filter((part) => part.getBoundingClientRect().right > innerWidth || part.scrollWidth > part.clientWidth + 1 || part.scrollHeight > part.clientHeight + 1).map((part) => part.id || part.parentElement.id)"
+    expect("columns that are cut off on paper", [4, []], [browser.run("return document.querySelectorAll('.column').length"), browser.run(cut)])
+    browser.tell("Emulation.setEmulatedMedia", media="")
+    browser.size(1280, 900)
+    browser.click("#as-list")
 
 
 def for_readers(office):
@@ -433,7 +447,7 @@ def for_readers(office):
     office.go(board, "tasks", task)
     browser.wait(IS_OPEN)
     tell(f"/boards/{board}/roles", member="bob", role=None)
-    browser.wait("dispatchEvent(new Event('focus')); return !document.querySelector('.views').checkVisibility() && !document.querySelector('nav').checkVisibility()")
+    browser.wait("dispatchEvent(new Event('focus')); return !document.querySelector('.views').checkVisibility() && !document.querySelector('#more').checkVisibility()")
     expect("tasks of the board on screen", False, browser.run(IS_TOLD, "Only to be read"))
     expect("the focus of one who was removed", True, browser.run(HAS_FOCUS))
     browser.call("DELETE", "/window")
@@ -441,15 +455,17 @@ def for_readers(office):
 
 
 def on_no_board(office):
-    """Who is on no board is told what to do, and has no empty list of boards."""
-    browser = office.browser
+    """Who is on no board is told what to do, has no empty list of boards, and sees a board as soon as an owner lets them in."""
+    browser, board = office.browser, new_board("Welcome")
     KEYS["lea"] = "lea-key-00"
     know("lea")
     [anns] = browser.tabs()
     browser.new_tab()
     office.sign_in("lea")
     browser.wait(IS_TOLD, "You are on no board")
-    expect("an empty list", False, browser.run("return document.getElementById('board').checkVisibility()"))
+    expect("boards in the list", 0, browser.run("return document.querySelectorAll('#boards li').length"))
+    tell(f"/boards/{board}/roles", member="lea", role="member")
+    browser.wait("return document.getElementById('heading').textContent === 'Welcome' && document.getElementById('count').textContent !== ''")
     browser.call("DELETE", "/window")
     browser.to_tab(anns)
 
@@ -464,11 +480,11 @@ const isOn = (button) => {
     return own.left < text.right - 1 && own.top < text.bottom - 1 && own.bottom > text.top + 1;
 };
 const buttons = (place) => [...document.querySelectorAll(`${place} button`)].filter((button) => button.checkVisibility());
-return [...buttons(".filters").filter(isCut), ...buttons("#notices .notice").filter(isOn)].map((button) => button.textContent);"""
+return [...buttons("header").filter(isCut), ...buttons(".filters").filter(isCut), ...buttons("#notices .notice").filter(isOn)].map((button) => button.textContent);"""
 
 
 # Whether the last button of the messages is what a finger meets in its place.
-IS_ON_TOP = """const button = [...document.querySelectorAll("#notices button")].at(-1), { left, top, width, height } = button.getBoundingClientRect();
+IS_ON_TOP = """const button = [...document.querySelectorAll("#notices li:not(.elsewhere) button")].at(-1), { left, top, width, height } = button.getBoundingClientRect();
 return document.elementFromPoint(left + width / 2, top + height / 2) === button"""
 
 
@@ -490,7 +506,7 @@ def on_a_phone(office):
     office.go(board, "tasks", task)
     browser.wait(IS_OPEN)
     browser.wait(IS_ON_TOP)
-    browser.run("[...document.querySelectorAll('#notices button')].at(-1).click()")
+    browser.run("[...document.querySelectorAll('#notices li:not(.elsewhere) button')].at(-1).click()")
     browser.wait("return document.querySelectorAll('#notices .refused').length === 0")
     behind_a_task(office, board, task)
 

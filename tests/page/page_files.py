@@ -6,6 +6,8 @@ import time
 
 from office import ALL_ANSWERED, ENTER, IS_TOLD, add, ask, expect, new_board, tasks, tell
 
+# The last message of this board is dismissed. (Those of other boards are told behind it.)
+DISMISS = "[...document.querySelectorAll('#notices li:not(.elsewhere) button')].at(-1).click()"
 ID = "00000000-0000-4000-9000-00000000000{}"
 
 
@@ -60,7 +62,7 @@ def the_rest(office):
     stored = {task["description"]: task for task in tasks(board)}
     expect("taken", {"Instance", "Template", "Tab\there", "Waits for the circle", "Sound"}, set(stored))
     expect("an instance in its place", [0, "biweekly", [ID.format(2)]], [stored["Instance"].get("imask"), stored["Template"]["recur"], stored["Waits for the circle"]["depends"]])
-    browser.run("[...document.querySelectorAll('#notices button')].at(-1).click()")
+    browser.run(DISMISS)
     choose_file(browser, "torn.json", json.dumps([{"uuid": ID.format(9), "description": "Whole"}, {"uuid": ID.format(8), "description": "Torn"}])[:-8])
     expect("a file that breaks off", True, told(browser)[0][1][0].endswith("the file breaks off in it"))
     for encoding, is_told in (("latin-1", True), ("utf-8", False)):
@@ -108,7 +110,7 @@ def full_board(office):
     expect("the old board", before, tasks(board))
     expect("people", json.loads(ask(f"/boards/{board}/people"))["people"], json.loads(ask(f"/boards/{made}/people"))["people"])
     expect("tasks", [task for task in before if task["status"] in ("pending", "waiting", "recurring")], sorted(tasks(made), key=lambda task: [one["uuid"] for one in before].index(task["uuid"])))
-    browser.run("[...document.querySelectorAll('#notices button')].at(-1).click()")
+    browser.run(DISMISS)
 
 
 def wait_until(browser, what, is_so):
@@ -135,16 +137,22 @@ def sweeps_once(office):
     expect("sweeps asked for", 1, relay.asked.count(swept))
 
 
+# Once the board has a deleted task.
+ARE_DELETED = """const { name, key } = JSON.parse(sessionStorage.getItem("taskboard.session") ?? localStorage.getItem("taskboard.session"));
+return fetch(arguments[0], { headers: { "x-member": name, "x-key": key } }).then((answer) => answer.json()).then((tasks) => tasks.some(({ status }) => status === "deleted"));"""
+
+
 def made_to_repeat(office):
-    """An existing task gets other dates, and is made to repeat: another takes its place, with its notes and links."""
+    """An existing task gets other dates, and is made to repeat: another takes its place, with its notes and links, and those of what waits for it."""
     browser, board = office.browser, new_board("Becoming")
     first = add(board, description="Water the plants", due="20991231T000000Z", depends=[add(board, description="Buy a can")], assignee="ann")
     tell(f"/boards/{board}/tasks/{first}/annotate", description="Little")
+    add(board, description="Go away for a week", depends=[first])
     office.begin(board)
     office.go(board, "tasks", first)
     browser.wait("return document.getElementById('edit')?.checkVisibility()")
     browser.click("#edit")
-    for name, day in (("Scheduled", "2099-12-01"), ("Until", "2100-06-30")):
+    for name, day in (("Planned for", "2099-12-01"), ("Until", "2100-06-30")):
         browser.run("const field = document.querySelector(`#edit-fields [aria-label='${arguments[0]}: day']`); field.value = arguments[1]; field.dispatchEvent(new Event('input', { bubbles: true }))", name, day)
     browser.click("#edit-form .primary")
     browser.wait("return document.getElementById('task-facts').textContent.includes('1 Dec 2099') && document.getElementById('task-facts').textContent.includes('30 Jun 2100')")
@@ -159,8 +167,12 @@ def made_to_repeat(office):
     browser.click("#edit")
     browser.wait(IS_TOLD, "Those that are there stay as they are.")
     browser.click("#cancel-edit")
+    browser.wait(ARE_DELETED, f"/boards/{board}/export")
     stored = [task for task in tasks(board) if task["description"] == "Water the plants"]
     expect("statuses", ["deleted", "recurring", "pending"], [task["status"] for task in stored])
+    [waiting] = [task for task in tasks(board) if task["description"] == "Go away for a week"]
+    expect("what waits for it", [stored[2]["uuid"]], waiting["depends"])
+    expect("what the first new task continues", True, any(first in note["description"] for note in stored[2]["annotations"]))
     members = ("recur", "due", "scheduled", "until", "assignee", "depends")
     expect("the repeating task", ["monthly", "20991231T000000Z", "20991201T000000Z", "21000630T000000Z", "ann", stored[0]["depends"]], [stored[1][name] for name in members])
     expect("its notes", ["Little"], [note["description"] for note in stored[1]["annotations"]])
@@ -210,7 +222,7 @@ def places_of_instances(office):
     expect("who has a place", {"Has it": 0, "Free": 1, "First": 0}, {name: task["imask"] for name, task in stored.items() if "imask" in task})
     expect("a deleted template", ["weekly", "+"], [stored["Deleted template"].get(name) for name in ("recur", "mask")])
     expect("numbers", [2**53 + 1, 2**63 - 1, None], [stored["Numbers"].get(name) for name in ("whole", "most", "power")])
-    browser.run("[...document.querySelectorAll('#notices button')].at(-1).click()")
+    browser.run(DISMISS)
     office.go(board)
 
 
@@ -229,7 +241,7 @@ def template_that_waits(office):
     browser.wait(ALL_ANSWERED)
     browser.wait(IS_TOLD, "(2 of 2 parts): 1,202 new; 0 known already, which stay as they are; 1 link to an unknown task dropped.")
     expect("the instance", [0], [task.get("imask") for task in tasks(board) if task["description"] == "Its own"])
-    browser.run("[...document.querySelectorAll('#notices button')].at(-1).click()")
+    browser.run(DISMISS)
     office.go(board)
 
 

@@ -11,7 +11,7 @@ LONG = "w" * 16385
 DUE = "20990101T000000Z"
 IDS = [UUID.format(at) for at in range(8)]
 # What the page's plans say of files, each beside a board with these tasks.
-PLANS = """const { plan } = await import("/importing.js");
+PLANS = """const { plan } = await import("/import/plan.js");
 const plans = [];
 for (const [text, told] of JSON.parse(arguments[0])) {
     const tasks = told.map((one) => ({ told: one, uuid: one.uuid }));

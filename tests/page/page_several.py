@@ -23,6 +23,7 @@ def press(browser, *keys, held=""):
 def pick(browser, *texts, of=0):
     """Chooses rows by their boxes, beside those that are chosen already."""
     if not browser.run("return document.getElementById('list').classList.contains('choosing')"):
+        browser.click("#more")
         browser.click("#choose")
     for count, text in enumerate(texts, of + 1):
         browser.run("[...document.querySelectorAll('#list .row')].find((row) => row.querySelector('.open').textContent === arguments[0]).querySelector('.choose').click()", text)
@@ -43,9 +44,12 @@ def several(office):
     office.begin(board)
     shown = ["Delta", "Alpha", "Beta", "Gamma"]
     browser.wait(ARE_LISTED, shown)
+    width = "return document.getElementById('list').offsetWidth"
+    before = browser.run(width)
     browser.run("document.querySelector('#list .open').focus()")
     press(browser, "x")
     browser.wait(IS_PICKED, "1 chosen")
+    expect("the width of the list with boxes", before, browser.run(width))
     press(browser, DOWN, DOWN, held=SHIFT)
     browser.wait(IS_PICKED, "3 chosen")
     office.shot("several")
@@ -58,7 +62,7 @@ def several(office):
     browser.wait(ARE_LISTED, shown)
     browser.wait(ALL_ANSWERED)
     expect("taken back", ["pending"] * 4, of_all(board, "status"))
-    expect("the way back afterwards", "", browser.run("return document.getElementById('toast').textContent"))
+    expect("the ways that are offered afterwards", ["Redo", "Close"], browser.run("return [...document.querySelectorAll('#toast button')].map((button) => button.textContent)"))
     pick(browser, "Alpha", "Beta")
     browser.run(CHANGE, "bulk-assign", "bob")
     browser.wait(IS_TOLD, "Assigned to bob: 2 tasks")
@@ -127,7 +131,7 @@ def back_unheard(office):
     browser.type("#bulk-form input", "House" + ENTER)
     browser.wait(IS_TOLD, "Project set: 2 tasks")
     browser.click("#toast button")
-    browser.wait(IS_TOLD, "4 changes aren't answered yet")
+    browser.wait(IS_TOLD, "4 changes wait here")
     browser.wait(WAITED, 4)
     office.relay.heal()
     browser.run("dispatchEvent(new Event('online'))")
@@ -168,7 +172,7 @@ def many_wait(office):
 
 # Keeps so many new tasks on the device, each by itself, as many of them as there are of a list that was pasted.
 ADD_MANY = """const [board, count] = arguments;
-return Promise.all([import("./sending.js"), import("./changes.js")])
+return Promise.all([import("/sync/outbox.js"), import("/core/calls.js")])
     .then(([{ keepEach }, { changes }]) => keepEach(Array.from({ length: count }, (_, at) => changes.add(board, { description: `Task ${at}` }))));"""
 ARE_ON_DEVICE = """return new Promise((done) => {
     indexedDB.open("taskboard").onsuccess = ({ target }) => {
@@ -198,7 +202,7 @@ def counted_waiting(office):
     office.begin(board)
     office.relay.break_off(LOSES_POSTS)
     browser.run(ADD_MANY, board, 1020)
-    browser.wait(IS_TOLD, "1,020 changes aren't answered yet")
+    browser.wait(IS_TOLD, "1,020 changes wait here")
     browser.click("#state")
     browser.wait(IS_TOLD, "and 1,000 more")
     browser.click("#sign-out")
@@ -219,13 +223,14 @@ def many_refused(office):
     for role, press_at, left in (("member", "Send 30 again", 30), ("reader", "Throw all away", 30)):
         office.relay.break_off(LOSES_POSTS)
         browser.run(ADD_MANY, board, 30)
-        browser.wait(IS_TOLD, "30 changes aren't answered yet")
+        browser.wait(IS_TOLD, "30 changes wait here")
         tell(f"/boards/{board}/roles", member="bob", role="reader")
         office.relay.heal()
         browser.run("dispatchEvent(new Event('online'))")
         browser.wait(told, 20)
         browser.wait(IS_TOLD, "And 10 more such messages.")
         browser.wait(ALL_ANSWERED)
+        expect("what is told of the state", "30 things need you", browser.run("return document.getElementById('state').textContent"))
         tell(f"/boards/{board}/roles", member="bob", role=role)
         browser.run("const [words] = arguments; setTimeout(() => [...document.querySelectorAll('#notices button')].find((button) => button.textContent === words).click())", press_at)
         if role == "reader":
@@ -242,7 +247,7 @@ def hundreds_wait(office):
     office.begin(board)
     office.relay.break_off(LOSES_POSTS)
     browser.run(ADD_MANY, board, count)
-    browser.wait(IS_TOLD, f"{count} changes aren't answered yet")
+    browser.wait(IS_TOLD, f"{count} changes wait here")
     browser.wait(WAITED, count)
     browser.run(COUNTED)
     browser.type("#add-line", "One more" + ENTER)
@@ -273,7 +278,7 @@ def moves(office):
     there = new_board("There")
     board = new_board("From here")
     ground = add(board, description="Ground", tags=["a"], big=9007199254740993, assignee="ann")
-    add(board, description="Upon it", depends=[ground])
+    upon = add(board, description="Upon it", depends=[ground])
     add(board, description="Stays", depends=[ground])
     office.begin(board)
     browser.wait("return document.getElementById('count').textContent === '3 of 3 tasks'")
@@ -281,12 +286,12 @@ def moves(office):
     relay.break_off(LOSES_ANSWERS)
     move(browser, there)
     relay.lost.wait(browser.patience)
-    browser.wait(IS_TOLD, "4 changes aren't answered yet")
+    browser.wait(IS_TOLD, "4 changes wait here")
     browser.open("about:blank")
     expect("after the stop", [["Ground"], ["pending"] * 3], [of_all(there, "description"), of_all(board, "status")])
     relay.break_off(LOSES_POSTS)
     browser.open(f"{office.address}#/{board}/tasks")
-    browser.wait(IS_TOLD, "4 changes aren't answered yet")
+    browser.wait(IS_TOLD, "4 changes wait here")
     relay.heal()
     browser.run("dispatchEvent(new Event('online'))")
     browser.wait(ALL_ANSWERED)
@@ -295,6 +300,8 @@ def moves(office):
     kept = {name: first[name] for name in ("description", "tags", "big", "assignee", "status")}
     expect("there", {"description": "Ground", "tags": ["a"], "big": 9007199254740993, "assignee": "ann", "status": "pending"}, kept)
     expect("its link", ["Upon it", [first["uuid"]]], [second["description"], second["depends"]])
+    origins = [f"Moved by ann from “From here”: {office.address}#/{board}/tasks/{uuid}" for uuid in (ground, upon)]
+    expect("where they come from", [[origin] for origin in origins], [[note["description"] for note in task["annotations"]] for task in (first, second)])
     browser.wait(ARE_LISTED, ["Stays"])
 
 

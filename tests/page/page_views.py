@@ -1,7 +1,7 @@
 """Scenes of the page: whose a task is, when it is due, what a search and a line understand, and what stands in the address."""
 import datetime
 
-from office import ALL_ANSWERED, BACKSPACE, ENTER, IS_LISTED, IS_TOLD, LISTED, add, expect, new_board, tasks, tell
+from office import ALL_ANSWERED, BACKSPACE, ENTER, IS_LISTED, IS_TOLD, LISTED, TAB, add, expect, new_board, tasks, tell
 
 HEADINGS = "return [...document.querySelectorAll('#list .heading h3')].map((heading) => heading.textContent)"
 ARE_LISTED = LISTED.replace("return", "return JSON.stringify(", 1) + ") === JSON.stringify(arguments[0])"
@@ -57,19 +57,49 @@ def add_words(office):
     friday = next(ahead for ahead in range(1, 8) if day(ahead).weekday() == 4)
     local = datetime.datetime.combine(day(9), datetime.time(14, 30)).astimezone(datetime.timezone.utc)
     expect("words with times", {"assignee": "ann", "due": f"{local:%Y%m%dT%H%M%SZ}", "wait": moment(friday)}, members(meet, "assignee", "due", "wait"))
-    browser.type("#add-line", "Lunch due:today 9:30")
-    browser.wait(IS_TOLD, f"isn't understood by itself: write due:{day(0)}T09:30")
-    browser.run("const line = document.getElementById('add-line'); line.value = ''; line.dispatchEvent(new Event('input', { bubbles: true }))")
-    browser.type("#add-line", "Rest due:tomorow for:zoe pri:X +One +Two at 10:30" + ENTER)
-    for told in ("due:tomorow isn't a day", "for:zoe names nobody", "pri:X isn't a priority", "+Two is a second one", "press Enter again"):
-        browser.wait(IS_TOLD, told)
-    office.shot("misread")
-    expect("added before it is pressed again", 2, len(tasks(board)))
-    browser.type("#add-line", ENTER)
-    browser.wait(IS_LISTED, "Rest due:tomorow for:zoe pri:X +Two at 10:30")
+    browser.type("#add-line", "Lunch due:tomorrow 9:30" + ENTER)
+    browser.wait(IS_LISTED, "Lunch")
     browser.wait(ALL_ANSWERED)
-    expect("in the description", "One", tasks(board)[2]["project"])
+    lunch = datetime.datetime.combine(day(1), datetime.time(9, 30)).astimezone(datetime.timezone.utc)
+    expect("a time behind its day", f"{lunch:%Y%m%dT%H%M%SZ}", tasks(board)[2]["due"])
+    browser.type("#add-line", "Rest due:tomorow for:zoe pri:X +One +Two at noon")
+    for told in ("due:tomorow isn't a day", "for:zoe names nobody", "pri:X isn't a priority", "+Two is a second one"):
+        browser.wait(IS_TOLD, told)
+    expect("marked in the line", ["due:tomorow", "for:zoe", "pri:X", "+Two"], browser.run("return [...document.querySelectorAll('#add-marks .misread')].map((mark) => mark.textContent)"))
+    office.shot("misread")
+    browser.type("#add-line", ENTER)
+    browser.wait(IS_LISTED, "Rest due:tomorow for:zoe pri:X +Two at noon")
+    browser.wait(ALL_ANSWERED)
+    expect("in the description", "One", tasks(board)[3]["project"])
+    as_people_type(browser, board)
     expect("words from right to left", {"rtl"}, set(browser.run(DIRECTIONS)))
+
+
+def as_people_type(browser, board):
+    """Days and repeats without a name count at the end of the line; a chip keeps its words as words; Tab goes on with what is offered."""
+    browser.type("#add-line", "Sunday school every monday 18:00 for:bob !1")
+    kinds = "return [...document.querySelectorAll('#add-marks .mark')].map((mark) => mark.textContent)"
+    expect("marked", ["every monday", "18:00", "for:bob", "!1"], browser.run(kinds))
+    browser.type("#add-line", ENTER)
+    browser.wait(ALL_ANSWERED)
+    school = next(task for task in tasks(board) if task["status"] == "recurring")
+    monday = next(ahead for ahead in range(1, 8) if day(ahead).weekday() == 0)
+    local = datetime.datetime.combine(day(monday), datetime.time(18, 0)).astimezone(datetime.timezone.utc)
+    expect("a repeat", {"description": "Sunday school", "recur": "weekly", "due": f"{local:%Y%m%dT%H%M%SZ}", "assignee": "bob", "priority": "H"}, members(school, "description", "recur", "due", "assignee", "priority"))
+    browser.type("#add-line", "Plan it tomorrow")
+    browser.run("[...document.querySelectorAll('#understood button.chip')].find((chip) => chip.textContent.startsWith('due')).click()")
+    expect("kept as words", "Plan it \\tomorrow", browser.run("return document.getElementById('add-line').value"))
+    browser.type("#add-line", ENTER)
+    browser.wait(IS_LISTED, "Plan it tomorrow")
+    browser.wait(ALL_ANSWERED)
+    expect("without a date", None, next(task for task in tasks(board) if task["description"].startswith("Plan")).get("due"))
+    browser.type("#add-line", "Sand it +Hou")
+    browser.wait("return document.querySelector('.choices-list [role=option]')?.textContent.startsWith('House.roof')")
+    browser.press(TAB)
+    expect("gone on with", "Sand it +House.roof ", browser.run("return document.getElementById('add-line').value"))
+    browser.type("#add-line", ENTER)
+    browser.wait(IS_LISTED, "Sand it")
+    browser.wait(ALL_ANSWERED)
 
 
 def added_aside(office):
@@ -138,7 +168,7 @@ def assign(office):
     browser.click("#edit")
     browser.run("const select = document.querySelector('#edit-fields select.assignee'); if (select.checkVisibility()) select.value = 'ann'")
     browser.click("#edit-save")
-    browser.wait("return document.getElementById('task-facts').textContent.includes('Assigneeann')")
+    browser.wait("return document.getElementById('task-facts').textContent.includes('Assigned toann')")
     browser.wait(ALL_ANSWERED)
     expect("assignee", "ann", tasks(board)[0]["assignee"])
     tell(f"/boards/{board}/tasks/{roof}/modify", assignee="bob")
@@ -253,7 +283,7 @@ def addresses(office):
     browser.run("location.hash = '#/9999/tasks'")
     browser.wait(IS_TOLD, "You have no role on board 9999, or it isn't there")
     office.shot("unknown")
-    browser.run("const boards = document.getElementById('board'); boards.value = arguments[0]; boards.dispatchEvent(new Event('change'))", str(board))
+    browser.click(f"#boards a[href='#/{board}/tasks']")
     browser.wait(ARE_LISTED, both)
 
 

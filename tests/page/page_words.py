@@ -2,6 +2,7 @@
 import contextlib
 import copy
 import json
+import pathlib
 
 from office import ALL_ANSWERED, BROWSER, ENTER, ESCAPE, IS_LISTED, IS_TOLD, KEYS, PORT, ask, expect, new_board, tasks, tell
 from office import add as add_task
@@ -20,10 +21,13 @@ NOTHING_IS_PUT = "IDBObjectStore.prototype.add = () => { throw new DOMException(
 # What stands on the device, its changes and what it keeps beside them, as text.
 DEVICE = """return new Promise((done) => {
     const texts = (value) => (value instanceof ArrayBuffer || ArrayBuffer.isView(value) ? String.fromCharCode(...new Uint8Array(value.buffer ?? value)) : value);
-    indexedDB.open("taskboard").onsuccess = ({ target }) => {
-        target.result.transaction("changes").objectStore("changes").getAll().onsuccess = ({ target }) =>
-            done(JSON.stringify([target.result, { ...localStorage }, { ...sessionStorage }], (_, value) => texts(value)));
-    };
+    const allOf = (database, store) => new Promise((done) => {
+        indexedDB.open(database).onsuccess = ({ target }) => {
+            target.result.transaction(store).objectStore(store).getAll().onsuccess = ({ target }) => done(target.result);
+        };
+    });
+    Promise.all([allOf("taskboard", "changes"), allOf("taskboard-drafts", "drafts")])
+        .then((all) => done(JSON.stringify([all, { ...localStorage }, { ...sessionStorage }], (_, value) => texts(value))));
 });"""
 # Once all that waits was sent in vain, which is noted on the device.
 WAITED = """return new Promise((done) => {
@@ -108,8 +112,8 @@ def add_person_unheard(office, board, name, key):
     office.relay.break_off(LOSES_POSTS)
     browser.type("#person-name", name)
     browser.type("#person-key", key + ENTER)
-    browser.wait(IS_TOLD, "2 changes aren't answered yet")
-    browser.wait(IS_TOLD, f"Once this is answered, {name} signs in with the key")
+    browser.wait(IS_TOLD, "2 changes wait here")
+    browser.wait(IS_TOLD, f"Once this is saved, {name} signs in with the key")
 
 
 def refused_keep_text(office):
@@ -126,7 +130,7 @@ def refused_keep_text(office):
     browser.click("#add-more")
     browser.type("#add-line", "Sand the door +House")
     browser.type("#add-fields input[placeholder='phone mail']", "saturday" + ENTER)
-    browser.wait(IS_TOLD, "3 changes aren't answered yet")
+    browser.wait(IS_TOLD, "3 changes wait here")
     tell(f"/boards/{board}/roles", member="bob", role="reader")
     heal(office)
     browser.wait("return document.querySelectorAll('#notices .refused').length === 3")
@@ -265,6 +269,7 @@ def told_before(office):
         type_into(browser, "#ahead", ahead + ENTER)
         browser.wait("return document.getElementById('ahead-form').textContent.includes('A board looks 1 to 12 instances ahead.')")
     office.go(board, "people")
+    browser.wait(IS_SHOWN, "#person-name")
     for name, key, told in (("Carol", "carolas-key-1", "A name has small letters"), ("c" * 33, "carolas-key-1", "1 bytes too long"), ("carola", "short", "8 characters at least"), ("carola", "a key with spaces", "no spaces")):
         type_into(browser, "#person-name", name)
         type_into(browser, "#person-key", key + ENTER)
@@ -277,6 +282,28 @@ def told_before(office):
     browser.click("#cancel-board")
     expect("sent", [["Short", None]], [[one["description"], one.get("annotations")] for one in tasks(board)])
     expect("refused", [True, 0], [browser.run(ALL_ANSWERED), browser.run("return document.querySelectorAll('#notices .refused, #notices .asks').length")])
+
+
+# Once a draft with this text stands on the device.
+IS_KEPT = """return new Promise((done) => {
+    indexedDB.open("taskboard-drafts").onsuccess = ({ target }) => {
+        target.result.transaction("drafts").objectStore("drafts").getAll().onsuccess = ({ target }) => done(target.result.some((text) => text.includes(arguments[0])));
+    };
+})"""
+
+
+def outlive_a_kill(office):
+    """What was just typed stands in its form again when the browser that is killed is started again."""
+    board, patience = new_board("Killed"), office.browser.patience
+    killed, profile = copy.copy(office), pathlib.Path("profile-that-types")
+    with Browser(BROWSER, patience, profile) as killed.browser:
+        killed.begin(board)
+        killed.browser.type("#add-line", "Half a line")
+        killed.browser.wait(IS_KEPT, "Half a line")
+        killed.browser.kill()
+    with Browser(BROWSER, patience, profile) as killed.browser:
+        killed.begin(board)
+        killed.browser.wait(HAS_VALUE, "#add-line", "Half a line")
 
 
 def drafts_stay(office):
@@ -469,7 +496,7 @@ def two_complete_one_task(office):
     office.begin(board)
     relay.break_off(LOSES_POSTS)
     browser.run("document.querySelector('#list .tick').click()")
-    browser.wait(IS_TOLD, "1 change isn't answered yet")
+    browser.wait(IS_TOLD, "1 change waits here")
     with beside(office, "bob", board) as bobs:
         bobs.browser.run("document.querySelector('#list .tick').click()")
         bobs.browser.wait(ALL_ANSWERED)
@@ -490,7 +517,7 @@ def changed_while_waiting(office):
     relay.break_off(LOSES_POSTS)
     for _ in range(2):
         browser.run("document.querySelector('#list .tick:not(.ticked)').click()")
-    browser.wait(IS_TOLD, "2 changes aren't answered yet")
+    browser.wait(IS_TOLD, "2 changes wait here")
     browser.wait(WAITED, 2)
     tell(f"/boards/{board}/tasks/{call}/modify", description="Call the office")
     # (a message whose look came before the change is lost too, as long as the line is broken)
@@ -516,7 +543,7 @@ def edited_before_sending(office):
     relay.break_off(LOSES_POSTS)
     type_into(browser, "#edit-fields textarea", "Buy green paint")
     press(browser, "Save", "#edit-form")
-    browser.wait(IS_TOLD, "1 change isn't answered yet")
+    browser.wait(IS_TOLD, "1 change waits here")
     relay.lost.wait(browser.patience)
     tell(f"/boards/{board}/tasks/{task}/modify", description="Buy red paint")
     browser.wait(IS_TOLD, "Not sent yet: Change Buy paint")
@@ -545,13 +572,13 @@ def given_up(office):
     office.relay.break_off(LOSES_POSTS)
     for number, name in enumerate(("Buy paint", "Paint the fence"), 1):
         browser.type("#add-line", name + ENTER)
-        browser.wait(IS_TOLD, "1 change isn't answered yet" if number == 1 else "2 changes aren't answered yet")
+        browser.wait(IS_TOLD, "1 change waits here" if number == 1 else "2 changes wait here")
     browser.click("#state")
     browser.wait(IS_SHOWN, "#unanswered-list button")
     expect("named", ["Give up: Add “Buy paint”", "Give up: Add “Paint the fence”"], browser.run("return [...document.querySelectorAll('#unanswered-list button')].map((button) => button.ariaLabel)"))
     browser.run("setTimeout(() => document.querySelector('#unanswered-list button').click())")
     expect("asked", True, browser.answer_question().startswith("Send this change no more: Add “Buy paint”?"))
-    browser.wait(IS_TOLD, "1 change isn't answered yet")
+    browser.wait(IS_TOLD, "1 change waits here")
     heal(office)
     expect("sent", ["Paint the fence"], [task["description"] for task in tasks(board)])
 
@@ -588,7 +615,7 @@ def signing_out(office):
         add_person_unheard(office, board, f"erin-{way}", f"erins-key-{way}")
         office.go(board)
         browser.type("#add-line", f"Unsent {way}" + ENTER)
-        browser.wait(IS_TOLD, "3 changes aren't answered yet")
+        browser.wait(IS_TOLD, "3 changes wait here")
         browser.click("#sign-out")
         for text in (f"erin-{way}", f"Unsent {way}"):
             browser.wait("return document.getElementById('leave-dialog').innerText.includes(arguments[0])", text)
@@ -605,9 +632,9 @@ def signing_out(office):
             office.shot("sign-in-waiting")
         browser.type("#name", "ann")
         browser.type("#key", KEYS["ann"] + ENTER)
-        browser.wait("return document.getElementById('count').textContent")
+        browser.wait("return document.getElementById('count')?.textContent")
         if way == "keep":
-            browser.wait(IS_TOLD, "3 changes aren't answered yet")
+            browser.wait(IS_TOLD, "3 changes wait here")
         heal(office)
         office.begin(board)
     browser.type("#add-line", "Begun")
@@ -628,13 +655,13 @@ def unsent_stands_once(office):
     open_task(office, board, task)
     relay.break_off(LOSES_ANSWERS)
     browser.type("#note-text", "Two tins" + ENTER)
-    browser.wait(IS_TOLD, "1 change isn't answered yet")
+    browser.wait(IS_TOLD, "1 change waits here")
     relay.lost.wait(browser.patience)
     tell(f"/boards/{board}/tasks/{task}/depend", on=other)
     browser.type("#depend-text", "Buy")
     browser.wait("return document.querySelectorAll('#depend-choices button').length === 1")
     browser.type("#depend-text", ENTER)
-    browser.wait(IS_TOLD, "2 changes aren't answered yet")
+    browser.wait(IS_TOLD, "2 changes wait here")
     tell(f"/boards/{board}/tasks/{task}/modify", project="House")
     browser.wait("dispatchEvent(new Event('focus')); return document.getElementById('task-facts').textContent.includes('House')")
     counts = "return ['notes', 'ahead'].map((part) => document.querySelectorAll(`#task-${part} li`).length)"
@@ -652,12 +679,12 @@ def unsent_looks_done(office):
     browser.wait(IS_LISTED, "Slow one")
     relay.break_off(LOSES_ANSWERS)
     browser.run("document.querySelector('#list .tick').click()")
-    browser.wait("return document.querySelector('#list .tick.ticked')?.parentElement.textContent.includes('not answered yet')")
+    browser.wait("return document.querySelector('#list .tick.ticked')?.parentElement.textContent.includes('not saved yet')")
     browser.type("#add-line", "New one +House" + ENTER)
-    browser.wait("return [...document.querySelectorAll('#list .row')].some((row) => row.textContent.includes('New one') && row.textContent.includes('not answered yet'))")
+    browser.wait("return [...document.querySelectorAll('#list .row')].some((row) => row.textContent.includes('New one') && row.textContent.includes('not saved yet'))")
     browser.run("[...document.querySelectorAll('#list .row')].find((row) => row.textContent.includes('New one')).querySelector('.tick').click()")
     browser.wait("return document.querySelectorAll('#list .ticked').length === 2")
-    browser.wait(IS_TOLD, "3 changes aren't answered yet")
+    browser.wait(IS_TOLD, "3 changes wait here")
     office.begin(board)
     browser.wait("return [...document.querySelectorAll('#list .row')].some((row) => row.textContent.includes('New one') && row.querySelector('.ticked'))")
     sent = browser.run(DEVICE)
@@ -670,4 +697,4 @@ def unsent_looks_done(office):
     expect("the first", task, stored["Slow one"]["uuid"])
 
 
-SCENES = (refused_keep_text, refused_person, refused_board, board_made_late, told_before, drafts_stay, forms_stay, in_two_tabs, device_is_full, two_edit_one_task, two_complete_one_task, changed_while_waiting, edited_before_sending, given_up, new_key_without_tls, signing_out, unsent_stands_once, unsent_looks_done)
+SCENES = (refused_keep_text, refused_person, refused_board, board_made_late, told_before, drafts_stay, outlive_a_kill, forms_stay, in_two_tabs, device_is_full, two_edit_one_task, two_complete_one_task, changed_while_waiting, edited_before_sending, given_up, new_key_without_tls, signing_out, unsent_stands_once, unsent_looks_done)

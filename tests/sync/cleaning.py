@@ -106,7 +106,7 @@ def expect_counts(told, counts):
 
 def look_at_steps():
     """The page's import and the filter respell steps by one table."""
-    cleaning, recurrence = (PAGE.joinpath(name).read_text() for name in ("cleaning.js", "recurrence.js"))
+    cleaning, recurrence = (PAGE.joinpath(name).read_text() for name in ("import/clean.js", "core/recurrence.js"))
     expect("the units", [(letters, int(count), names) for letters, count, names in re.findall(r'\["(\w+)", (\d+), "([a-z ]+)"\],', cleaning)], list(steps.UNITS))
     expect("the words", dict(re.findall(r'"(\w+)": "(\w+)"', re.search(r"const WORDS = \{.*\}", cleaning)[0])), steps.WORDS)
     for name, table in (("WORDS", steps.DAYS), ("MONTHS", steps.MONTHS)):
