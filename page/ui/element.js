@@ -29,6 +29,23 @@ export function refill(element, ...children) {
     if (fresh.innerHTML !== element.innerHTML) fill(element, ...fresh.childNodes);
 }
 
+// Fills an element with rows, each of them by a name. One that stands there by its name already stays as it is, with what is typed in it and the
+// focus; `rows` gives the name of each, and what makes it.
+export function fillNamed(element, rows) {
+    const known = new Map([...element.children].map((child) => [child.dataset.name, child]));
+    const wanted = rows.map(([name, makeRow]) => {
+        const row = known.get(name) ?? makeRow();
+        row.dataset.name = name;
+        return row;
+    });
+    for (const row of known.values()) if (!wanted.includes(row)) row.remove();
+    let next = element.firstElementChild;
+    for (const row of wanted) {
+        if (row === next) next = next.nextElementSibling;
+        else element.insertBefore(row, next);
+    }
+}
+
 export const span = (kind, ...children) => make("span", { class: kind }, ...children);
 export const button = (label, act, settings = {}) => make("button", { type: "button", click: act, ...settings }, label);
 

@@ -19,13 +19,20 @@ function place(element, anchor) {
 
 export const isPopoverOpen = () => document.querySelector("[popover]:popover-open") !== null;
 
-// Opens it. `backTo` gives what has the focus afterwards, where that isn't the element: a row may have been drawn anew. Gives what closes it.
-export function openPopover(anchor, label, children, { kind = "", backTo = () => anchor } = {}) {
-    opened?.close();
+// Opens it. `backTo` gives what has the focus afterwards, where that isn't the element: a row may have been drawn anew. `left` is called where its
+// person has gone elsewhere, and neither took something nor pressed Escape. Gives what closes it.
+export function openPopover(anchor, label, children, { kind = "", backTo = () => anchor, left = () => {} } = {}) {
+    if (opened?.element.isConnected) opened.element.hidePopover();
     const element = make("div", { class: `popover ${kind}`.trim(), popover: "auto", role: "dialog", "aria-label": label }, children);
-    const own = { element, close: () => element.isConnected && element.hidePopover() };
+    let isEnded = false;
+    const close = () => {
+        isEnded = true;
+        if (element.isConnected) element.hidePopover();
+    };
+    const own = { element, close };
     const app = document.getElementById("app");
     anchor.setAttribute("aria-expanded", "true");
+    element.addEventListener("keydown", (event) => (isEnded ||= event.key === "Escape" && !event.isComposing));
     element.addEventListener("toggle", ({ newState }) => {
         if (newState !== "closed") return;
         // (whoever pressed something else has gone there)
@@ -34,6 +41,7 @@ export function openPopover(anchor, label, children, { kind = "", backTo = () =>
         anchor.setAttribute("aria-expanded", "false");
         if (!hasGone) backTo()?.focus({ preventScroll: true });
         element.remove();
+        if (!isEnded) left();
     });
     app.append(element);
     element.showPopover();

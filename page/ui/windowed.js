@@ -113,7 +113,7 @@ export class List {
             const isGone = !this.#items.some((task) => task.uuid === this.#current);
             const others = [...rows.values()].filter((other) => isTask(other.item));
             const row = isGone ? others.find((other) => other.at >= from) ?? others.at(-1) : rows.get(this.#current);
-            row?.querySelector(`.${focused.classList[0]}`).focus({ preventScroll: true });
+            (row?.querySelector(`.${focused.classList[0]}`) ?? row?.querySelector(".open"))?.focus({ preventScroll: true });
         }
         this.#setTabStop();
     }

@@ -7,9 +7,11 @@ import { look } from "../sync/http.js";
 import { keep, waiting } from "../sync/outbox.js";
 import { keepDraft, readDraft, whenTypedElsewhere } from "../store/drafts.js";
 import { lookAgain } from "../store/fresh.js";
+import { go } from "../store/route.js";
 import { here, state } from "../store/store.js";
 import { isWhole, whenSent } from "../ui/check.js";
-import { fill, find, make } from "../ui/element.js";
+import { button, fill, find, make, said } from "../ui/element.js";
+import { toast } from "../ui/toast.js";
 import { tellFault } from "./faults.js";
 import { Fields } from "./fields.js";
 
@@ -21,9 +23,10 @@ export const MARKUP = `
 
 // How long Save waits for the freshest copy of the task, in milliseconds; without one it takes the copy that is shown.
 const PATIENCE = 5000;
-// The task in the form, its fields, what they said when the form was opened, how that is typed, and whether the task is to be reopened first; and
-// the fields that are being saved.
-let [edited, fields, before, opened, reopens, saved] = [null, null, null, null, false, null];
+// The form that is open, and the one that is being saved. Each has its task and the number of the board; the fields; what they said when the form
+// was opened, and how that is typed; whether the task is to be reopened first, and whether its person has cancelled.
+/** @type {any[]} */
+let [open, saved] = [null, null];
 
 const isSame = (one, other) => JSON.stringify(one) === JSON.stringify(other);
 const tell = (text) => (find("edit-told").textContent = text);
@@ -31,7 +34,6 @@ const tell = (text) => (find("edit-told").textContent = text);
 function show(isShown) {
     find("edit-form").hidden = !isShown;
     for (const id of ["task-text", "task-actions", "task-facts"]) find(id).hidden = isShown;
-    reopens = false;
     tell("");
     fill(find("edit-conflicts"));
     find("edit-save").textContent = "Save";
@@ -41,9 +43,8 @@ function show(isShown) {
 // Opens the form as its draft left it, or with what the task says.
 export function openEdit(task) {
     const draft = readDraft("edit", task.uuid);
-    [edited, fields] = [task, new Fields(state.board, task)];
-    before = draft?.before ?? fields.read();
-    opened = fields.typed();
+    const fields = new Fields(state.board, task);
+    open = { task, number: state.number, fields, before: draft?.before ?? fields.read(), opened: fields.typed(), reopens: false, isDropped: false };
     if (draft) fields.retype(draft.typed);
     show(true);
     fill(find("edit-fields"), fields.elements);
@@ -52,7 +53,7 @@ export function openEdit(task) {
 }
 
 export function closeEdit() {
-    [edited, fields, before] = [null, null, null];
+    open = null;
     show(false);
     fill(find("edit-fields"));
 }
@@ -63,30 +64,41 @@ export function beginTask(task) {
     else closeEdit();
 }
 
+// Whether the focus is in the form, or nowhere. Who types elsewhere by now keeps the focus there.
+const hasFocus = () => find("edit-form").contains(document.activeElement) || !document.activeElement || document.activeElement === document.body;
+
 // Closes the form and keeps its draft; what opened it has the focus again.
 export function leaveEdit() {
+    const wasHere = hasFocus();
     closeEdit();
-    (find("edit") ?? find("task-text")).focus();
+    if (wasHere) (find("edit") ?? find("task-text")).focus();
 }
 
-export const isEditing = () => fields !== null;
+export const isEditing = () => open !== null;
 
 function keepEdit() {
+    const { task, fields, before } = open;
     const isChanged = !isSame(fields.read(), before);
-    keepDraft("edit", edited.uuid, isChanged ? { before, typed: fields.typed() } : null);
+    keepDraft("edit", task.uuid, isChanged ? { before, typed: fields.typed() } : null);
 }
 
 // What another tab types into the form of this task stands here too; once it was saved or taken back there, nothing is left to do here.
 function follow(draft) {
     if (draft?.isLeft) return closeEdit();
-    before = draft?.before ?? before;
-    fields.retype(draft?.typed ?? opened);
+    open.before = draft?.before ?? open.before;
+    open.fields.retype(draft?.typed ?? open.opened);
 }
 
-function drop() {
-    // (other tabs hear that the form was left, and not that it says by chance what it said before)
-    if (readDraft("edit", edited.uuid)) keepDraft("edit", edited.uuid, { isLeft: true });
-    keepDraft("edit", edited.uuid, null);
+// (other tabs hear that the form was left, and not that it says by chance what it said before)
+function dropDraft({ task, number }) {
+    if (readDraft("edit", task.uuid, number)) keepDraft("edit", task.uuid, { isLeft: true }, number);
+    keepDraft("edit", task.uuid, null, number);
+}
+
+// (what waits to be saved isn't saved any more)
+function cancel() {
+    open.isDropped = true;
+    dropDraft(open);
     leaveEdit();
 }
 
@@ -113,15 +125,17 @@ function merge(before, mine, fresh) {
 }
 
 // The task as the server has it now; as it is shown, where no answer comes or changes of one's own aren't sent yet.
-async function freshest(task) {
-    const shown = state.board.byId.get(task.uuid) ?? task;
+async function freshest({ task, number }) {
+    const shown = shownOf(task, number) ?? task;
     if (waiting().some((change) => change.task === task.uuid)) return shown;
-    return look(state.who, `/boards/${state.number}/tasks/${task.uuid}`, PATIENCE).then((text) => new Task(text), () => shown);
+    return look(state.who, `/boards/${number}/tasks/${task.uuid}`, PATIENCE).then((text) => new Task(text), () => shown);
 }
 
+const shownOf = ({ uuid }, number) => (state.board?.number === number ? state.board.byId.get(uuid) : undefined);
+
 // Who set a field of the task last, where the server tells that.
-async function settersOf(task) {
-    const told = await lookAtDeedsOf(state.who, state.number, task.uuid, PATIENCE).catch(() => null);
+async function settersOf({ task, number }) {
+    const told = await lookAtDeedsOf(state.who, number, task.uuid, PATIENCE).catch(() => null);
     return (name) => told?.entries.findLast(sets(name))?.member ?? "someone else";
 }
 
@@ -133,70 +147,94 @@ function choice(name, mine, theirs, by) {
 }
 
 // Takes the choices that were made into the form: from here on the freshest task is what was changed.
-function takeChoices(fresh) {
-    const typed = fields.typed();
+function takeChoices(form, fresh) {
+    const typed = form.fields.typed();
     for (const { dataset } of find("edit-conflicts").querySelectorAll("fieldset")) {
         const isTheirs = find("edit-form").elements[`side-${dataset.name}`].value === "theirs";
         const parts = Object.keys(typed).filter((part) => part === dataset.name || part.startsWith(`${dataset.name} `));
         if (isTheirs) parts.forEach((part) => (typed[part] = fresh.typed()[part]));
-        before = { ...before, [dataset.name]: fresh.read()[dataset.name] };
+        form.before = { ...form.before, [dataset.name]: fresh.read()[dataset.name] };
     }
-    fields.retype(typed);
+    form.fields.retype(typed);
     fill(find("edit-conflicts"));
+    keepEdit();
 }
 
 // One save at a time. The button keeps the focus meanwhile, so that a second Enter doesn't fall on Cancel beside it.
 async function saveOnce() {
-    if (saved === fields || !isWhole(find("edit-form"))) return;
-    saved = fields;
+    const form = open;
+    if (saved === form || !isWhole(find("edit-form"))) return;
+    saved = form;
     find("edit-save").ariaDisabled = true;
     try {
-        await save();
+        await save(form);
     } finally {
-        saved = null;
-        find("edit-save").ariaDisabled = null;
+        if (saved === form) [saved, find("edit-save").ariaDisabled] = [null, null];
     }
 }
 
-function ask(choices) {
+// Asks in the form. Who has left it meanwhile has what was typed there as a draft, and hears of it.
+function ask(form, choices) {
+    if (open !== form) return tellAsked(form);
+    const wasHere = hasFocus();
     fill(find("edit-conflicts"), choices);
-    find("edit-conflicts").querySelector("input").focus();
+    if (wasHere) find("edit-conflicts").querySelector("input").focus();
     find("edit-conflicts").scrollIntoView({ block: "nearest" });
 }
 
-async function save() {
-    const [form, task] = [fields, edited];
-    const now = await freshest(task);
-    if (fields !== form) return;
-    // (what somebody else changed is shown, whatever comes of this)
-    if (!isSame(now.told, state.board.byId.get(task.uuid)?.told)) lookAgain();
-    const fresh = new Fields(state.board, now);
-    takeChoices(fresh);
-    const [mine, theirs] = [fields.read(), fresh.read()];
-    const { edits, conflicts } = merge(before, mine, theirs);
-    const setterOf = conflicts.length > 0 ? await settersOf(now) : null;
-    if (fields !== form) return;
-    if (conflicts.length > 0) return ask(conflicts.map((name) => choice(name, mine[name], theirs[name], setterOf(name))));
-    if (Object.keys(edits).length > 0 && !now.isOpen && !reopens) return askToReopen(now);
-    const change = { ...changes.modify(state.number, now, edits), form: { before, typed: fields.typed() } };
-    if (Object.keys(edits).length > 0) await keep(...(reopens ? [changes.act(state.number, now, "reopen")] : []), change);
-    drop();
+function tellAsked({ task, number }) {
+    toast(make("span", {}, "Not saved yet: meanwhile someone else changed ", make("q", {}, said(task.description, 60)), "."), button("Look at it", () => go(number, "tasks", task.uuid)));
 }
 
-function askToReopen(task) {
-    reopens = true;
+// Saves what a form says as Save is pressed. Its person may do something else until the server has told how the task is now.
+async function save(form) {
+    const [{ who }, { number, reopens }] = [state, form];
+    const now = await freshest(form);
+    if (state.who !== who || form.isDropped) return;
+    // (what somebody else changed is shown, whatever comes of this)
+    if (!isSame(now.told, shownOf(now, number)?.told)) lookAgain();
+    const fresh = new Fields(state.board, now);
+    if (open === form) takeChoices(form, fresh);
+    const [mine, typed, theirs] = [form.fields.read(), form.fields.typed(), fresh.read()];
+    const { edits, conflicts } = merge(form.before, mine, theirs);
+    if (conflicts.length > 0) {
+        const setterOf = await settersOf(form);
+        return ask(form, conflicts.map((name) => choice(name, mine[name], theirs[name], setterOf(name))));
+    }
+    if (Object.keys(edits).length > 0 && !now.isOpen && !reopens) return askToReopen(form, now);
+    const change = { ...changes.modify(number, now, edits), form: { before: form.before, typed } };
+    if (Object.keys(edits).length > 0) await keep(...(reopens ? [changes.act(number, now, "reopen")] : []), change);
+    end(form, mine, typed);
+}
+
+// What was saved is no draft any more. What its person has typed on meanwhile is one, and changes what was saved.
+function end(form, mine, typed) {
+    const { task, number } = form;
+    const isOpen = open?.task.uuid === task.uuid && open.number === number;
+    const now = isOpen ? open.fields.typed() : readDraft("edit", task.uuid, number)?.typed ?? typed;
+    if (!isSame(now, typed)) keepDraft("edit", task.uuid, { before: mine, typed: now }, number);
+    else dropDraft(form);
+    if (!isOpen) return;
+    if (isSame(now, typed)) return leaveEdit();
+    Object.assign(open, { before: mine, opened: typed, reopens: false });
+    show(true);
+}
+
+function askToReopen(form, task) {
+    if (open !== form) return tellAsked(form);
+    form.reopens = true;
     tell(`Meanwhile this task was ${task.status}. Your text is kept: reopen the task to save it, or cancel.`);
     find("edit-save").textContent = "Reopen and save";
 }
 
 export function beginEdit() {
     find("edit-form").addEventListener("input", keepEdit);
-    find("cancel-edit").addEventListener("click", drop);
+    find("cancel-edit").addEventListener("click", cancel);
     // (Enter alone begins a line of the description)
     find("edit-form").addEventListener("keydown", (event) => {
         if (event.key === "Enter" && (event.ctrlKey || event.metaKey) && event.target.matches("textarea")) find("edit-form").requestSubmit();
     });
     whenSent("edit-form", () => saveOnce().catch(tellFault));
-    whenTypedElsewhere("edit", (draft) => isEditing() && follow(draft), () => edited?.uuid);
+    whenTypedElsewhere("edit", (draft) => isEditing() && follow(draft), () => open?.task.uuid);
     listen("left", closeEdit);
 }

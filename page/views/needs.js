@@ -7,7 +7,7 @@ import { forget, keep, sendAgain, sendAllTheSame, sendHidden, sendNow, settled, 
 import { go } from "../store/route.js";
 import { state } from "../store/store.js";
 import { groupOf } from "../store/undo.js";
-import { button, fill, find, make, said, span, tasksTold } from "../ui/element.js";
+import { button, fill, fillNamed, find, make, said, span, tasksTold } from "../ui/element.js";
 import { icon } from "../ui/icons.js";
 import { endToast, toast } from "../ui/toast.js";
 import { tellFault } from "./faults.js";
@@ -27,8 +27,8 @@ export const NOTICES = `<ul id="notices" class="notices" aria-label="Messages" a
 const [LATE, MOST_SHOWN] = [400, 20];
 const WAYS_BACK = { done: "Completed", delete: "Deleted" };
 const DONE_BEFORE = { done: "completed", delete: "deleted", reopen: "reopened", start: "started", stop: "stopped" };
-// Whether the server answers, what the notices show, and the task of which the toast offers a way back.
-let [isThere, look, offered] = [true, "", ""];
+// Whether the server answers, and the task of which the toast offers a way back.
+let [isThere, offered] = [true, ""];
 // Whether that toast is still the one that is shown.
 let isOffered = () => false;
 
@@ -178,26 +178,31 @@ function many(all, count) {
 // Where a message is shown in full: at its board, and what is of no board everywhere.
 const isHere = ({ board }) => board === 0 || (board === state.number && state.view !== "day");
 
+const titleOf = (number) => state.boards.find(({ board }) => board === number)?.title;
+
 // The messages of another board, as a count that leads to it.
 function elsewhere([number, all]) {
-    const title = state.boards.find(({ board }) => board === number)?.title;
+    const title = titleOf(number);
     const told = make("p", {}, `${counted(all.length)} ${all.length === 1 ? "message" : "messages"} of `, title === undefined ? `board ${number}` : make("q", {}, said(title, 60)), ".");
     return make("li", { class: "notice elsewhere" }, told, button("Show", () => go(number, "tasks")));
 }
 
+// A message that says the same as before stays as it is: a key may be typed in it.
 function drawNotices() {
     const all = settled().filter((one) => one.state !== "done" || one.reports);
     const here = all.filter(isHere);
     const of = (state) => here.filter((one) => one.state === state);
     const told = Object.keys(TOLD).flatMap(of);
-    const [first, imports] = [told.slice(0, MOST_SHOWN), of("done")];
+    const first = told.slice(0, MOST_SHOWN);
+    const orders = (changes) => changes.map(({ order }) => order).join();
     const others = [...Map.groupBy(all.filter((one) => !isHere(one)), ({ board }) => board)];
-    const seen = JSON.stringify([told.length, [...first, ...imports].map((one) => [one.order, one.state, ["refused", "asks"].includes(one.state) && wayOf(one)]), others.map(([number, { length }]) => [number, length])]);
-    if (seen === look) return;
-    look = seen;
-    const rest = told.length - first.length;
-    const reports = Object.values(Object.groupBy(imports, (one) => one.group || one.id)).map(report);
-    fill(find("notices"), first.map((one) => TOLD[one.state](one)), rest > 0 ? many(told, rest) : "", reports, others.map(elsewhere));
+    const imports = Object.values(Object.groupBy(of("done"), (one) => one.group || one.id));
+    fillNamed(find("notices"), [
+        ...first.map((one) => [`${one.order} ${one.state} ${wayOf(one)} ${JSON.stringify(one.doubt)}`, () => TOLD[one.state](one)]),
+        ...(told.length > first.length ? [[`many ${orders(told)}`, () => many(told, told.length - first.length)]] : []),
+        ...imports.map((parts) => [`import ${orders(parts)}`, () => report(parts)]),
+        ...others.map((one) => [`elsewhere ${one[0]} ${one[1].length} ${titleOf(one[0])}`, () => elsewhere(one)]),
+    ]);
 }
 
 // (a message that was on its way when its person left fails after that, and nothing of it is told any more)

@@ -142,15 +142,17 @@ function rename() {
     if (place.role !== "reader" && task()?.isOpen) changeValue(find("task-text"), task(), "description", place, () => find("rename"));
 }
 
-// What is added leaves the form at once; where the device can't keep it, it is there again.
+// What is added leaves the form at once; where the device can't keep it, it is there again, in front of what was typed meanwhile.
 async function addNote(form) {
-    const [{ number }, uuid, text] = [state, shown, find("note-text").value];
+    const [{ number }, uuid, one, text] = [state, shown, task(), find("note-text").value];
+    if (!one) return;
     form.reset();
     keepDraft("note", uuid, null);
     if (!text.trim()) return;
-    await keep(changes.annotate(number, task(), text.trim())).catch((fault) => {
-        keepDraft("note", uuid, text, number);
-        if (shown === uuid) find("note-text").value = text;
+    await keep(changes.annotate(number, one, text.trim())).catch((fault) => {
+        const all = [text, readDraft("note", uuid, number)].filter(Boolean).join(" ");
+        keepDraft("note", uuid, all, number);
+        if (shown === uuid) find("note-text").value = all;
         throw fault;
     });
 }

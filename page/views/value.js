@@ -122,19 +122,21 @@ function openTags(anchor, { task, save, backTo }) {
     openChoosing(anchor, { label: LABELS.tags, all: texts(all), isNew: true, chosen: task.tags, faultIn: faultInTags, choose: turn }, backTo);
 }
 
-// Enter keeps the text, Shift and Enter begins a line, Escape drops it.
+// Enter keeps the text, as a click elsewhere does; Shift and Enter begins a line, Escape drops it.
 function openTitle(anchor, { task, save, backTo }) {
     const fault = make("p", { class: "fault", role: "alert" });
     const text = make("textarea", { rows: 3, "aria-label": LABELS.description, dir: "auto" }, task.description);
+    const faultNow = () => faultInDescription(text.value.trim());
     const take = (event) => {
         event.preventDefault();
-        fault.textContent = faultInDescription(text.value.trim());
+        fault.textContent = faultNow();
         if (fault.textContent) return;
         own.close();
         save(text.value.trim());
     };
+    const left = () => faultNow() || save(text.value.trim());
     text.addEventListener("keydown", (event) => event.key === "Enter" && !event.shiftKey && !event.isComposing && take(event));
-    const own = openPopover(anchor, LABELS.description, [make("form", { class: "title-form", submit: take, novalidate: true }, text, fault, make("div", { class: "line" }, make("button", { class: "primary" }, "Keep")))], { kind: "titling", backTo });
+    const own = openPopover(anchor, LABELS.description, [make("form", { class: "title-form", submit: take, novalidate: true }, text, fault, make("div", { class: "line" }, make("button", { class: "primary" }, "Keep")))], { kind: "titling", backTo, left });
     text.setSelectionRange(text.value.length, text.value.length);
 }
 

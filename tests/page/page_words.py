@@ -38,6 +38,21 @@ WAITED = """return new Promise((done) => {
         };
     };
 })"""
+# From here on nothing that the page asks of a task is answered, until answer() is called; and the device takes no change, until free() is.
+UNANSWERED = """const real = window.fetch;
+    const answered = new Promise((done) => (window.answer = done));
+    window.fetch = (path, settings) => (/\\/tasks\\/[^/]+$/.test(path) && !settings.method ? answered.then(() => real(path, settings)) : real(path, settings));"""
+IS_BUSY = """return new Promise((done) => {
+    indexedDB.open('taskboard').onsuccess = ({ target }) => {
+        const store = target.result.transaction('changes', 'readwrite').objectStore('changes');
+        let isFree = false;
+        const hold = () => isFree || (store.count().onsuccess = hold);
+        window.free = () => (isFree = true);
+        hold();
+        done(true);
+    };
+});"""
+NOT_SAVED_YET = "return document.getElementById('task-status').textContent.includes('not saved yet')"
 
 
 @contextlib.contextmanager
@@ -56,6 +71,12 @@ def press(browser, label, inside="#notices"):
     """Clicks the button with these words, once it is there."""
     found = "[...document.querySelector(arguments[1]).querySelectorAll('button')].find((button) => button.textContent === arguments[0] && !button.disabled)"
     browser.wait(f"const found = {found}; found?.click(); return Boolean(found)", label, inside)
+
+
+def press_beside(browser, label, text):
+    """Clicks the button with these words in the message that says this, once it is there."""
+    found = "[...document.querySelectorAll('#notices li')].find((notice) => notice.innerText.includes(arguments[1])), button = notice && [...notice.querySelectorAll('button')].find((button) => button.textContent === arguments[0])"
+    browser.wait(f"const notice = {found}; button?.click(); return Boolean(button)", label, text)
 
 
 def type_into(browser, selector, text):
@@ -142,18 +163,18 @@ def refused_keep_text(office):
     tell(f"/boards/{board}/roles", member="bob", role="member")
     tell(f"/boards/{board}/tasks/{task}/delete")
     browser.wait("dispatchEvent(new Event('focus')); " + IS_TOLD, "Edit and send again")
-    press(browser, "Edit and send again")
+    press_beside(browser, "Edit and send again", "Change Buy paint")
     browser.wait(EDITED, "Buy green paint")
     press(browser, "Save", "#edit-form")
     browser.wait(IS_TOLD, "Meanwhile this task was deleted")
     save(browser, "Reopen and save")
     browser.wait("return document.querySelectorAll('#notices .refused').length === 2")
-    press(browser, "Edit and send again")
+    press_beside(browser, "Edit and send again", "Note on Buy")
     browser.wait(HAS_VALUE, "#note-text", "Two tins, not three")
     browser.wait(HAS_FOCUS, "note-text")
     browser.press(ENTER)
     browser.wait("return document.querySelectorAll('#notices .refused').length === 1")
-    press(browser, "Edit and send again")
+    press_beside(browser, "Edit and send again", "Add Sand the door")
     browser.wait(HAS_VALUE, "#add-line", "Sand the door +House")
     browser.wait(HAS_FOCUS, "add-line")
     expect("a field", "saturday", browser.run(VALUE, "#add-fields input[placeholder='phone mail']"))
@@ -163,6 +184,91 @@ def refused_keep_text(office):
     sent = one_of(board, task)
     expect("the edit and the note", ["Buy green paint", "pending", ["Two tins, not three"]], [sent["description"], sent["status"], [note["description"] for note in sent["annotations"]]])
     expect("the new task", [["Sand the door", "House", ["saturday"]]], [[one["description"], one["project"], one["tags"]] for one in tasks(board) if one["uuid"] != task])
+
+
+def typed_while_saving(office):
+    """What is typed while an edit is being saved stays where it is typed: in a note, in that form, in another task's form."""
+    browser, board = office.browser, new_board("Typed on")
+    task, other = (add_task(board, description=text) for text in ("Buy paint", "Buy brushes"))
+    office.begin(board)
+    open_edit(office, board, task, "Buy paint")
+    type_into(browser, "#edit-fields textarea", "Buy green paint")
+    browser.run(UNANSWERED)
+    press(browser, "Save", "#edit-form")
+    browser.type("#note-text", "Two tins")
+    browser.run("window.answer()")
+    browser.wait("return !document.getElementById('edit-form').offsetParent")
+    browser.press(*", not three", ENTER)
+    browser.wait("return document.querySelectorAll('#task-notes li').length === 1")
+    browser.wait(ALL_ANSWERED)
+    sent = one_of(board, task)
+    expect("the edit and the note", ["Buy green paint", ["Two tins, not three"]], [sent["description"], [note["description"] for note in sent["annotations"]]])
+    on_in_the_form(office, board, task)
+    on_in_another(office, board, task, other)
+    left_while_saving(office, board, task)
+
+
+def on_in_the_form(office, board, task):
+    """What is typed on in the form, once Save has read it, is a draft that changes what was saved."""
+    browser = office.browser
+    open_edit(office, board, task, "Buy green paint")
+    type_into(browser, "#edit-fields textarea", "Buy blue paint")
+    browser.run(IS_BUSY)
+    press(browser, "Save", "#edit-form")
+    browser.wait(NOT_SAVED_YET)
+    browser.type("#edit-fields textarea", " today")
+    browser.run("window.free()")
+    browser.wait(ALL_ANSWERED)
+    expect("what was saved", "Buy blue paint", one_of(board, task)["description"])
+    expect("what was typed on", True, browser.run(EDITED, "Buy blue paint today"))
+    office.begin(board)
+    open_task(office, board, task)
+    browser.wait(EDITED, "Buy blue paint today")
+    save(browser)
+    expect("once that is saved too", "Buy blue paint today", one_of(board, task)["description"])
+
+
+def on_in_another(office, board, task, other):
+    """Who opens another task while the first is saved finds its draft there; the first one is saved all the same."""
+    browser = office.browser
+    open_edit(office, board, other, "Buy brushes")
+    type_into(browser, "#edit-fields textarea", "Buy three brushes")
+    open_edit(office, board, task, "Buy blue paint today")
+    type_into(browser, "#edit-fields textarea", "Buy red paint")
+    browser.run(UNANSWERED)
+    press(browser, "Save", "#edit-form")
+    office.go(board, "tasks", other)
+    browser.wait(EDITED, "Buy three brushes")
+    browser.run("window.answer()")
+    browser.wait(IS_LISTED, "Buy red paint")
+    browser.wait(ALL_ANSWERED)
+    expect("both", ["Buy red paint", "Buy brushes"], [one_of(board, uuid)["description"] for uuid in (task, other)])
+    expect("the other's form", True, browser.run(EDITED, "Buy three brushes"))
+    save(browser)
+    expect("the other", "Buy three brushes", one_of(board, other)["description"])
+
+
+def left_while_saving(office, board, task):
+    """Cancel takes back what waits to be saved. Where somebody else changed the same, who has gone on hears that nothing is saved, and finds the form."""
+    browser = office.browser
+    open_edit(office, board, task, "Buy red paint")
+    for text, away in (("Buy no paint", "#cancel-edit"), ("Buy white paint", "#close-panel")):
+        type_into(browser, "#edit-fields textarea", text)
+        browser.run(UNANSWERED)
+        press(browser, "Save", "#edit-form")
+        browser.click(away)
+        if away == "#close-panel":
+            tell(f"/boards/{board}/tasks/{task}/modify", description="Buy black paint")
+        browser.run("window.answer()")
+        browser.type("#add-line", f"After {text}" + ENTER)
+        browser.wait(ALL_ANSWERED)
+        expect(f"after {away}", "Buy red paint" if away == "#cancel-edit" else "Buy black paint", one_of(board, task)["description"])
+        if away == "#cancel-edit":
+            browser.click("#edit")
+    browser.wait(IS_TOLD, "Not saved yet: meanwhile someone else changed")
+    press(browser, "Look at it", "#toast")
+    browser.wait(EDITED, "Buy white paint")
+    browser.click("#cancel-edit")
 
 
 def refused_person(office):
@@ -589,13 +695,13 @@ def new_key_without_tls(office):
     ours = office.address
     office.address = f"http://{STRANGER}:{relay.port}/"
     office.begin(board)
-    add_person_unheard(office, board, "nina", "nina-key-00")
+    add_person_unheard(office, board, "vera", "vera-key-00")
     browser.click("#sign-out")
     browser.wait(IS_TOLD, "Without TLS this browser can't hide keys")
     browser.click("#leave-keep")
     browser.wait(IS_SHOWN, "#sign-in-form")
     device = browser.run(DEVICE)
-    expect("left on the device", [False, False, True], [text in device for text in ("nina-key-00", KEYS["ann"], "Give the role")])
+    expect("left on the device", [False, False, True], [text in device for text in ("vera-key-00", KEYS["ann"], "Give the role")])
     relay.heal()
     office.begin(board)
     browser.wait(ALL_ANSWERED)
@@ -697,4 +803,4 @@ def unsent_looks_done(office):
     expect("the first", task, stored["Slow one"]["uuid"])
 
 
-SCENES = (refused_keep_text, refused_person, refused_board, board_made_late, told_before, drafts_stay, outlive_a_kill, forms_stay, in_two_tabs, device_is_full, two_edit_one_task, two_complete_one_task, changed_while_waiting, edited_before_sending, given_up, new_key_without_tls, signing_out, unsent_stands_once, unsent_looks_done)
+SCENES = (refused_keep_text, typed_while_saving, refused_person, refused_board, board_made_late, told_before, drafts_stay, outlive_a_kill, forms_stay, in_two_tabs, device_is_full, two_edit_one_task, two_complete_one_task, changed_while_waiting, edited_before_sending, given_up, new_key_without_tls, signing_out, unsent_stands_once, unsent_looks_done)
