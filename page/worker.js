@@ -4,7 +4,7 @@
 // A browser asks for the worker at each start, and a page that stays open every few minutes; it is installed anew where a byte of it differs. The
 // next line, made by tests/page/page_content.py, differs with every other file, so a new version is found then, also where its files are as long as
 // before.
-// Content of the other files: 53b7b183f125e74c61d19a8645a959bb9c3374ae68b9fe3f4cb5aaa7033da772
+// Content of the other files: 58ee378c5ac99927c18afe98d9e1ab260c8726d590a2f4145f5c88b4e9344203
 
 const VERSION = "taskboard ";
 const FILE = /^\/(?:(?:[a-z0-9_-]+\/)?[a-z0-9_.-]+\.(?:html|css|js|svg|png|ico))?$/;

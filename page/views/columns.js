@@ -182,7 +182,7 @@ function beginDragging(place) {
         event.dataTransfer.setData("text/plain", dragged?.description ?? "");
     });
     const over = (event) => (dragged ? event.target.closest(".column") : null);
-    const mark = (column) => NAMES.forEach((name) => find(`column-${name}`).classList.toggle("over", find(`column-${name}`) === column));
+    const mark = (column) => NAMES.forEach((name) => find(`column-${name}`).classList.toggle("target", find(`column-${name}`) === column));
     place.addEventListener("dragover", (event) => {
         const column = over(event);
         if (column) event.preventDefault();

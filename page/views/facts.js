@@ -41,7 +41,7 @@ function valueOf(name, task, place) {
     const text = textOf(name, task);
     if (place.role === "reader" || !canChange(task, name)) return make("bdi", {}, text || EMPTY[name]);
     const label = `${labelOfValue(name)}: ${text || EMPTY[name]}`;
-    const settings = { "data-value": name, class: text ? "fact" : "fact empty", "aria-label": label, title: `Change: ${labelOfValue(name)}`, "aria-keyshortcuts": keyOf(name) };
+    const settings = { "data-value": name, class: text ? "fact" : "fact unset", "aria-label": label, title: `Change: ${labelOfValue(name)}`, "aria-keyshortcuts": keyOf(name) };
     return make("button", { type: "button", ...settings, click: () => changeValue(again(name), task, name, place, () => again(name)) }, pictureOf(name, task), make("bdi", {}, text || EMPTY[name]));
 }
 

@@ -23,7 +23,7 @@ function suggesting(input, texts) {
 
 // The people who can have a task; where they come later they are filled in.
 const drawAssignees = (select, name) => fill(select, options([["", "nobody"], ...choices([name].filter(Boolean))], name));
-listen("people", () => document.querySelectorAll("select.assignee").forEach((select) => drawAssignees(select, select.value)));
+listen("people", () => document.querySelectorAll("select.people-choices").forEach((select) => drawAssignees(select, select.value)));
 
 export const tagsIn = (text) => [...new Set(text.split(/[\s,]+/).filter(Boolean).map((tag) => tag.replace(/^@/, "")))].sort();
 
@@ -57,7 +57,7 @@ export class Fields {
         this.project = input(task?.project);
         this.tags = input(task?.tags.join(" "), { placeholder: "phone mail" });
         this.priority = make("select", {}, options([["", "none"], ...Object.entries(PRIORITIES)], task?.priority ?? ""));
-        this.assignee = make("select", { class: "assignee" });
+        this.assignee = make("select", { class: "people-choices" });
         drawAssignees(this.assignee, task?.assignee ?? "");
         this.due = new MomentField("Due", task?.due, isTemplate);
         this.wait = new MomentField("Hide until", seconds(task?.told.wait));

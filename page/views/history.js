@@ -52,7 +52,7 @@ const taskHere = (uuid) => (state.board?.number === state.number ? state.board.b
 function taskLink(uuid) {
     const known = taskHere(String(uuid).toLowerCase());
     const label = known ? said(known.description, 120) : "a task that isn't here";
-    return known ? button(label, () => go(state.number, "tasks", known.uuid), { class: known.isOpen ? "link" : "link over" }) : span("about", label);
+    return known ? button(label, () => go(state.number, "tasks", known.uuid), { class: known.isOpen ? "link" : "link ended" }) : span("about", label);
 }
 
 // What is told of the notes and moments of the open task, once its history came: who wrote a note, and who did something last.
@@ -127,7 +127,7 @@ const wanted = () => ({ person: find("history-person").value, what: find("histor
 const passes = (entry, { person, what }) => (!person || entry.member === person) && (!what || entry.what === what);
 
 function dayRow(day) {
-    return make("li", { class: "day" }, make("h3", {}, day));
+    return make("li", {}, make("h3", {}, day));
 }
 
 function entryRow(entry) {

@@ -74,7 +74,7 @@ function noteRow(one, note) {
 }
 
 function taskRow(other, ...beside) {
-    const link = button(said(other.description, 120), () => go(state.number, "tasks", other.uuid), { class: other.isOpen ? "link" : "link over" });
+    const link = button(said(other.description, 120), () => go(state.number, "tasks", other.uuid), { class: other.isOpen ? "link" : "link ended" });
     return make("li", {}, link, span("about", other.isOpen ? "" : other.status, ...beside));
 }
 

@@ -18,7 +18,7 @@ export const MARKUP = `
     </div>
     <form id="ahead-form" class="line" hidden><label for="ahead">How many of each stand here before they are due</label><input id="ahead" type="number" placeholder="1 to 12" required><button>Set</button></form>
     <p id="no-templates" class="empty" hidden></p>
-    <ul id="templates" class="cards"></ul>
+    <ul id="templates" class="templates"></ul>
 </section>
 `;
 
@@ -47,7 +47,7 @@ function card(template) {
     const title = button(said(template.description, 200), () => go(state.number, "repeating", template.uuid), { class: "link title" });
     const about = make("p", { class: "about" }, said(template.recur, 40), ` from ${inFull(template.due)}${until}`);
     const earlier = first > 0 ? make("p", { class: "about" }, `${first} earlier ones aren't shown.`) : "";
-    return make("li", { class: "card" }, title, about, make("ol", { class: "mask", "aria-label": "Its tasks so far" }, cells), earlier);
+    return make("li", { class: "template" }, title, about, make("ol", { class: "mask", "aria-label": "Its tasks so far" }, cells), earlier);
 }
 
 // A template always has an instance that isn't due yet; where the last one is, time has passed since the board was last changed.

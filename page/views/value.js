@@ -136,7 +136,7 @@ function openTitle(anchor, { task, save, backTo }) {
     };
     const left = () => faultNow() || save(text.value.trim());
     text.addEventListener("keydown", (event) => event.key === "Enter" && !event.shiftKey && !event.isComposing && take(event));
-    const own = openPopover(anchor, LABELS.description, [make("form", { class: "title-form", submit: take, novalidate: true }, text, fault, make("div", { class: "line" }, make("button", { class: "primary" }, "Keep")))], { kind: "titling", backTo, left });
+    const own = openPopover(anchor, LABELS.description, [make("form", { submit: take, novalidate: true }, text, fault, make("div", { class: "line" }, make("button", { class: "primary" }, "Keep")))], { kind: "titling", backTo, left });
     text.setSelectionRange(text.value.length, text.value.length);
 }
 

@@ -166,7 +166,7 @@ def assign(office):
     office.go(board, "tasks", roof)
     browser.wait("return document.getElementById('task-facts').textContent.includes('bob')")
     browser.click("#edit")
-    browser.run("const select = document.querySelector('#edit-fields select.assignee'); if (select.checkVisibility()) select.value = 'ann'")
+    browser.run("const select = document.querySelector('#edit-fields select.people-choices'); if (select.checkVisibility()) select.value = 'ann'")
     browser.click("#edit-save")
     browser.wait("return document.getElementById('task-facts').textContent.includes('Assigned toann')")
     browser.wait(ALL_ANSWERED)
