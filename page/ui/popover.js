@@ -17,6 +17,15 @@ function place(element, anchor) {
     Object.assign(element.style, { left: `${Math.max(EDGE, x)}px`, top: `${Math.max(EDGE, y)}px` });
 }
 
+// What is open, and what it stands beside: both move where the window gets another size.
+let placed = [];
+addEventListener("resize", () => placed[0]?.matches(":popover-open") && place(placed[0], placed[1]));
+
+function open(element, anchor) {
+    placed = [element, anchor];
+    place(element, anchor);
+}
+
 export const isPopoverOpen = () => document.querySelector("[popover]:popover-open") !== null;
 
 // Opens it. `backTo` gives what has the focus afterwards, where that isn't the element: a row may have been drawn anew. `left` is called where its
@@ -46,7 +55,7 @@ export function openPopover(anchor, label, children, { kind = "", backTo = () =>
     app.append(element);
     element.showPopover();
     opened = own;
-    place(element, anchor);
+    open(element, anchor);
     (element.querySelector("[autofocus], input, textarea, [aria-selected=true], [aria-checked=true], button:not(:disabled), a[href]") ?? element).focus({ preventScroll: true });
     return own;
 }
@@ -59,7 +68,7 @@ export function attachPopover(anchor, element) {
     element.addEventListener("toggle", ({ newState }) => {
         anchor.setAttribute("aria-expanded", String(newState === "open"));
         if (newState !== "open") return;
-        place(element, anchor);
+        open(element, anchor);
         element.querySelector("[autofocus], select, input, [aria-current], a[href], button:not(:disabled)")?.focus({ preventScroll: true });
     });
 }

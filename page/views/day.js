@@ -97,9 +97,12 @@ async function askForAll() {
     if (isAsking || !isShown() || state.boards.length === 0) return;
     [isAsking, askedAt, missing] = [true, performance.now(), 0];
     draw();
-    for (const { board } of state.boards) {
-        if (!isShown()) break;
-        await ask(board).catch(() => (missing += 1));
+    // (boards that come meanwhile are asked for too)
+    const asked = new Set();
+    const next = () => (isShown() ? state.boards.find(({ board }) => !asked.has(board)) : undefined);
+    for (let one = next(); one; one = next()) {
+        asked.add(one.board);
+        await ask(one.board).catch(() => (missing += 1));
     }
     isAsking = false;
     draw();

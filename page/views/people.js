@@ -119,7 +119,7 @@ function row({ name, role }, isFirst, owners) {
     const keys = isFirst && !isMine ? keyButtons(name) : [];
     const isLocked = locked().includes(name);
     const about = isMine ? " (you)" : isLocked ? " locked out" : "";
-    return make("li", { class: isLocked ? "locked" : null }, make("span", { class: "person" }, face(name), make("span", {}, said(name), about ? span("about", about) : "")), ...(isOwner() ? [select, ...keys, end] : [span("chip", said(role)), ...keys]));
+    return make("li", { class: isLocked ? "locked" : null }, make("span", { class: "person" }, face(name), make("span", {}, said(name), about ? span("about", about) : "")), ...(isOwner() ? [select, span("line", ...keys, end)] : [span("chip", said(role)), span("line", ...keys)]));
 }
 
 // A view that isn't answered is asked for again at the next look. What was refused is shown anew as it is on the server.

@@ -9,7 +9,28 @@ from page_views import day, moment
 LEFT, RIGHT = "\ue012", "\ue014"
 
 DAY = "return [...document.querySelectorAll('#day-list :is(h3 bdi, .open)')].map((text) => text.textContent)"
+# From here on each page that is opened is told of its boards, and nothing of what is on them until release() is called.
+BOARDS_HELD = """const real = window.fetch;
+const released = new Promise((done) => (window.release = done));
+window.fetch = (path, settings) => (String(path).startsWith("/boards/") ? released.then(() => real(path, settings)) : real(path, settings));"""
 IS_DAY = DAY.replace("return", "return JSON.stringify(", 1) + ") === JSON.stringify(arguments[0])"
+
+
+def new_on_the_day(office):
+    """A board that comes while My day asks for those that this device knew is asked for with them."""
+    browser, known = office.browser, new_board("Known here")
+    office.begin(known)
+    browser.wait("return document.querySelector('#boards [aria-current] .name')?.textContent === 'Known here'")
+    later = new_board("Come later")
+    add(later, description="Due there", due=moment(0), assignee="ann")
+    held = browser.tell("Page.addScriptToEvaluateOnNewDocument", source=BOARDS_HELD)["identifier"]
+    browser.open("about:blank")
+    browser.open(f"{office.address}#/day/mine")
+    browser.wait("return [...document.querySelectorAll('#boards .name')].some((name) => name.textContent === 'Come later')")
+    browser.run("window.release()")
+    browser.wait(f"{DAY}.includes('Due there')")
+    browser.tell("Page.removeScriptToEvaluateOnNewDocument", identifier=held)
+    office.begin(known)
 
 
 def sign_in_as(office, name):
@@ -146,4 +167,4 @@ def columns(office):
     browser.wait("return document.querySelectorAll('#list .row').length === 3")
 
 
-SCENES = (my_day, columns)
+SCENES = (my_day, new_on_the_day, columns)

@@ -4,7 +4,7 @@ import json
 import pathlib
 import urllib.error
 
-from office import ALL_ANSWERED, BROWSER, ENTER, IS_LISTED, IS_TOLD, KEYS, ask, expect, know, new_board, tell
+from office import ALL_ANSWERED, BROWSER, ENTER, IS_LISTED, IS_TOLD, KEYS, add, ask, expect, know, new_board, tell
 from page_words import DEVICE, IS_SHOWN, NOTHING_IS_PUT, add_person_unheard, heal, press, type_into
 from relay import LOSES_ANSWERS, LOSES_POSTS
 from webdriver import STRANGER, Browser
@@ -296,8 +296,9 @@ def without_tls(office):
 
 def hidden_under_former_key(office):
     """A new person's key that was hidden under a key which another device has changed since is sent once the former key is given."""
-    browser, relay, board = office.browser, office.relay, new_board("Hidden")
+    browser, relay, board = office.browser, office.relay, new_board("Hidden", bob="member")
     former, later = KEYS["ann"], "ann-key-later"
+    task = add(board, description="Take the bins out")
     office.begin(board)
     add_person_unheard(office, board, "ida", "ida-key-00")
     tell("/me/key", key=later, old=former)
@@ -309,10 +310,14 @@ def hidden_under_former_key(office):
     browser.type("#notices input[type=password]", "some-other-key")
     press(browser, "Send it")
     browser.wait(IS_TOLD, "This isn't the key under which it is hidden")
-    type_into(browser, "#notices input[type=password]", former)
+    type_into(browser, "#notices input[type=password]", former[:4])
+    told_meanwhile(office, board, task)
+    browser.type("#notices input[type=password]", former[4:])
     press(browser, "Send it")
     browser.wait("return document.querySelectorAll('#notices .asks').length === 0")
     browser.wait(ALL_ANSWERED)
+    # (what was refused is told on its board)
+    office.go(board)
     browser.wait(IS_TOLD, "The server knows nobody of that name")
     dismiss(browser)
     KEYS["ida"] = "ida-key-00"
@@ -323,6 +328,24 @@ def hidden_under_former_key(office):
     browser.wait(LOOKED + IS_SHOWN, "#sign-in-form")
     sign_in(office, "ann", former)
     browser.wait(IS_IN)
+
+
+def told_meanwhile(office, board, task):
+    """Another message comes while a key is typed in one: what is typed of it stays."""
+    browser, relay = office.browser, office.relay
+    typed = "return document.querySelector('#notices input[type=password]').value"
+    before = browser.run(typed)
+    office.go(board)
+    browser.wait(IS_LISTED, "Take the bins out")
+    relay.break_off(LOSES_POSTS)
+    browser.run("document.querySelector('#list .tick').click()")
+    browser.wait(IS_TOLD, "1 change waits here")
+    tell(f"/boards/{board}/tasks/{task}/done", "bob")
+    relay.heal()
+    browser.wait("dispatchEvent(new Event('online')); " + IS_TOLD, "bob had completed Take the bins out already.")
+    expect("what is typed of a key", [True, before], [before != "", browser.run(typed)])
+    press(browser, "Dismiss", "#notices .already")
+    browser.run("const key = document.querySelector('#notices input[type=password]'); key.focus(); key.setSelectionRange(99, 99)")
 
 
 def key_changed_elsewhere(office):

@@ -5,6 +5,7 @@ import json
 
 from office import ALL_ANSWERED, DOWN, ENTER, ESCAPE, IS_LISTED, IS_TOLD, LISTED, add, ask, expect, new_board, tasks, tell
 from page_several import CONTROL, press
+from page_words import type_into
 
 TOP = "return document.querySelector('#list .row:not(.heading)').getBoundingClientRect().top"
 IS_OPEN = "return Boolean(document.querySelector(':popover-open')) === arguments[0]"
@@ -31,6 +32,10 @@ def look(office):
     expect("the first task at 1,280", True, browser.run(TOP) <= 120)
     browser.size(390, 844)
     browser.wait(f"{TOP} <= 140")
+    browser.wait(ALL_ANSWERED)
+    for is_wanted in (False, True):
+        browser.wait("return document.getElementById('state').checkVisibility() === arguments[0]", is_wanted)
+        browser.click("#tab-boards")
     browser.size(1280, 900)
     browser.wait("return document.querySelector('#boards [aria-current] .count')?.textContent === '3 open tasks'")
     browser.click("#star")
@@ -93,6 +98,9 @@ def in_place(office):
     browser.wait(IS_LISTED, "Paint the fence")
     value(browser, "Paint the fence", ".due")
     office.shot("picker")
+    browser.size(390, 844)
+    browser.wait("return [...document.querySelectorAll(':popover-open button')].every((button) => button.getBoundingClientRect().left >= 0 && button.getBoundingClientRect().right <= innerWidth)")
+    browser.size(1280, 900)
     browser.type(".picker-text", "in 2 weeks" + ENTER)
     browser.wait(IS_TOLD, "The due date of Paint the fence is now")
     browser.wait(ALL_ANSWERED)
@@ -141,6 +149,17 @@ def in_the_panel(office, board, task):
     browser.wait("return document.getElementById('task-text').textContent === 'Paint the fence well'")
     browser.wait(ALL_ANSWERED)
     expect("in the panel", ["H", "Paint the fence well"], [tasks(board)[0][name] for name in ("priority", "description")])
+    for leave, wanted in ((lambda: browser.press(ESCAPE), "Paint the fence well"), (lambda: browser.click("#task-status"), "Paint the fence very well")):
+        browser.click("#rename")
+        type_into(browser, ":popover-open textarea", "Paint the fence very well")
+        leave()
+        browser.wait(IS_OPEN, False)
+        browser.wait(ALL_ANSWERED)
+        browser.wait("return document.getElementById('task-text').textContent === arguments[0]", wanted)
+        expect("a title that is left", wanted, tasks(board)[0]["description"])
+    press(browser, "z", held=CONTROL)
+    browser.wait("return document.getElementById('task-text').textContent === 'Paint the fence well'")
+    browser.wait(ALL_ANSWERED)
     office.shot("facts")
     browser.click("#close-panel")
 
