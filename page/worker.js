@@ -4,7 +4,7 @@
 // A browser asks for the worker at each start, and a page that stays open every few minutes; it is installed anew where a byte of it differs. The
 // next line, made by tests/page/page_content.py, differs with every other file, so a new version is found then, also where its files are as long as
 // before.
-// Content of the other files: 4652217dcee9472976f71beefe89ceb80270e5ba3867a18e333e8b5e16063503
+// Content of the other files: ba6f1ee64aa325b95ad1fcbe0405f227cbd99af77ff8d833f8197fad44702acc
 
 const VERSION = "taskboard ";
 const FILE = /^\/(?:(?:[a-z0-9_-]+\/)?[a-z0-9_.-]+\.(?:html|css|js|svg|png|ico))?$/;

@@ -63,6 +63,9 @@ export async function lookAtBoards() {
     forgetCopies((name, number) => name === who.name && !isMine(number));
 }
 
+// Under this and a name stands what this device notes of that person's boards: which have a star, and how many open tasks each had.
+export const NOTED = "taskboard.boards ";
+
 // Nothing that was seen stays of who isn't signed in any more. A lock says who is, in some tab: what is seen there stays.
 const lockOf = (name) => `taskboard in ${name}`;
 /** @type {(done?: any) => void} */
@@ -78,6 +81,8 @@ async function forgetOthers(leaver = "") {
     leave();
     const { held } = (await navigator.locks?.query()) ?? { held: [] };
     const isIn = (name) => name !== leaver && held.some((lock) => lock.name === lockOf(name));
+    const noted = Object.keys(localStorage).filter((key) => key.startsWith(NOTED) && !isIn(key.slice(NOTED.length)));
+    noted.forEach((key) => localStorage.removeItem(key));
     await Promise.all([forgetSeen, forgetCopies].map((forget) => forget((name) => !isIn(name))));
 }
 

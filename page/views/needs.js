@@ -97,6 +97,7 @@ function refusal(change) {
     const told = [
         make("p", {}, make("strong", {}, "Refused: "), about(change)),
         make("p", {}, reason(change)),
+        isOfNone(change) ? make("p", {}, `It is of board ${change.board}, on which you aren't.`) : "",
         change.culprit ? make("p", {}, "It is the task ", quoted(change.culprit), ".") : "",
         change.reports ? make("p", {}, parts) : change.takenBack ? make("p", {}, "What belonged to it wasn't sent.") : "",
         texts.length ? make("details", {}, make("summary", {}, "What was to be sent"), texts.map((text) => make("p", { class: "long" }, make("bdi", {}, text)))) : "",
@@ -175,10 +176,11 @@ function many(all, count) {
     return make("li", { class: "notice" }, make("div", {}, `And ${counted(count)} more such messages.`), buttons(again, button("Throw all away", attempt(end), { class: "quiet" })));
 }
 
-// Where a message is shown in full: at its board, and what is of no board everywhere.
-const isHere = ({ board }) => board === 0 || (board === state.number && state.view !== "day");
-
 const titleOf = (number) => state.boards.find(({ board }) => board === number)?.title;
+// Whether a change is of a board that its person isn't on, as one whose number was mistyped.
+const isOfNone = ({ board }) => board > 0 && state.boards.length > 0 && titleOf(board) === undefined;
+// Where a message is shown in full: at its board, and what is of no board, or of one that can't be shown, everywhere.
+const isHere = (change) => change.board === 0 || isOfNone(change) || (change.board === state.number && state.view !== "day");
 
 // The messages of another board, as a count that leads to it.
 function elsewhere([number, all]) {
@@ -198,7 +200,7 @@ function drawNotices() {
     const others = [...Map.groupBy(all.filter((one) => !isHere(one)), ({ board }) => board)];
     const imports = Object.values(Object.groupBy(of("done"), (one) => one.group || one.id));
     fillNamed(find("notices"), [
-        ...first.map((one) => [`${one.order} ${one.state} ${wayOf(one)} ${JSON.stringify(one.doubt)}`, () => TOLD[one.state](one)]),
+        ...first.map((one) => [`${one.order} ${one.state} ${wayOf(one)} ${isOfNone(one)} ${JSON.stringify(one.doubt)}`, () => TOLD[one.state](one)]),
         ...(told.length > first.length ? [[`many ${orders(told)}`, () => many(told, told.length - first.length)]] : []),
         ...imports.map((parts) => [`import ${orders(parts)}`, () => report(parts)]),
         ...others.map((one) => [`elsewhere ${one[0]} ${one[1].length} ${titleOf(one[0])}`, () => elsewhere(one)]),

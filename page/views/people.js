@@ -201,4 +201,5 @@ export function beginPeople() {
     listen("answered", ({ change }) => change.path.endsWith("/roles") && draw(true));
     listen("answered", noteRefusal);
     listen("answered", noteKey);
+    listen("left", () => localStorage.removeItem(LOCKED));
 }

@@ -1,6 +1,7 @@
 // The side bar: who is in, what leads everywhere, and the boards, those with a star first. On phones and in narrow windows it comes over the page.
 import { counted, oneLine } from "../core/format.js";
 import { listen } from "../core/news.js";
+import { NOTED } from "../store/fresh.js";
 import { go } from "../store/route.js";
 import { state } from "../store/store.js";
 import { fill, find, make, span } from "../ui/element.js";
@@ -38,7 +39,7 @@ const narrow = matchMedia("(max-width: 62.49rem)");
 const phone = matchMedia("(max-width: 44rem)");
 
 // What this device knows of someone's boards beside what the server says: which have a star, and how many open tasks each had when it was seen.
-const keyOf = (name) => `taskboard.boards ${name}`;
+const keyOf = (name) => NOTED + name;
 const EMPTY = { stars: [], counts: {} };
 const known = () => JSON.parse(localStorage.getItem(keyOf(state.who.name))) ?? EMPTY;
 
@@ -123,11 +124,6 @@ function startSearching() {
     });
 }
 
-function beginLeaving() {
-    listen("left", (name) => localStorage.removeItem(keyOf(name)));
-    listen("signed", () => fill(find("my-face"), face(state.who.name)));
-}
-
 export function beginSide() {
     find("side-add").addEventListener("click", startAdding);
     find("tab-add").addEventListener("click", startAdding);
@@ -143,7 +139,7 @@ export function beginSide() {
         showSide(false);
     });
     steerChoices(find("boards"), "a");
-    beginLeaving();
+    listen("signed", () => fill(find("my-face"), face(state.who.name)));
     listen("boards", drawBoardList);
     listen("board", () => state.board && countTasks(state.board));
     listen("route", () => {

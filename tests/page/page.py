@@ -65,6 +65,8 @@ PACED = SCROLLED.replace("let left", "const at = []; let left").replace("const s
 EMPTIED = "const field = document.getElementById(arguments[0]); field.focus(); field.value = ''; field.dispatchEvent(new Event('input', { bubbles: true }))"
 CLICKED = ("#list .row:nth-child(3) .open", "#close-panel", "#list .tick:not(.ticked)", "#as-columns", "#as-list")
 CLICKS = [f"document.querySelector('{what}').click()" for what in CLICKED]
+# Whether a device keeps nothing beside how boards were left.
+NOTHING_BUT_FILTERS = "return [sessionStorage, localStorage].every((place) => Object.keys(place).every((key) => / (filters|looked)$/.test(key)))"
 # Once what was put on the device before stands there.
 IS_KEPT = """return new Promise((done) => {
     indexedDB.open("taskboard").onsuccess = ({ target }) => {
@@ -473,7 +475,7 @@ def last_steps(office):
     browser.click("#sign-out")
     browser.wait("return document.getElementById('sign-in-form').offsetParent")
     expect_release(browser)
-    expect("what is kept but filters", [[], []], browser.run("return [sessionStorage, localStorage].map((place) => Object.keys(place).filter((key) => !/ (filters|looked)$/.test(key)))"))
+    browser.wait(NOTHING_BUT_FILTERS)
     kept = browser.run(page_words.DEVICE)
     expect("the key, and what was searched for", [False, False], [KEYS["ann"] in kept, "text=" in kept])
     told = [message for message in browser.messages() if "Failed to load resource" not in message]
