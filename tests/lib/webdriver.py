@@ -23,6 +23,13 @@ class Gone(Exception):
     """An element that was found isn't in the page any more, or a question that was to be answered isn't asked."""
 
 
+def is_running(process):
+    """Whether a process does anything still."""
+    with contextlib.suppress(OSError):
+        return pathlib.Path(f"/proc/{process}/stat").read_text().rpartition(")")[2].split()[0] != "Z"
+    return False
+
+
 class Steered:
     """What steers a page by `run`, and waits for `patience` seconds for what shall come."""
 
@@ -59,8 +66,12 @@ class Browser(Steered):
     def __enter__(self):
         return self
 
-    def __exit__(self, *_):
-        if self.driver.poll() is None:
+    def __exit__(self, fault, *_):
+        if self.driver.poll() is not None:
+            return
+        if self.profile and not fault:
+            self.close()
+        else:
             self.call("DELETE", "")
             self.end_driver()
 
@@ -68,10 +79,23 @@ class Browser(Steered):
         self.driver.terminate()
         self.driver.wait()
 
+    def process(self):
+        """The browser's process, which it notes in its profile."""
+        return int(os.readlink(pathlib.Path(self.profile, "SingletonLock")).rpartition("-")[2])
+
+    def close(self):
+        """Ends the browser as people do, and lets it write all that it keeps: the driver's own end kills one that takes its time."""
+        process = self.process()
+        end = time.monotonic() + 5 * self.patience
+        with contextlib.suppress(SystemExit, OSError):
+            self.tell("Browser.close")
+        while is_running(process) and time.monotonic() < end:
+            time.sleep(0.05)
+        self.end_driver()
+
     def kill(self):
-        """Ends the browser as a machine that stops does. It notes its process in its profile."""
-        process = int(os.readlink(pathlib.Path(self.profile, "SingletonLock")).rpartition("-")[2])
-        os.kill(process, signal.SIGKILL)
+        """Ends the browser as a machine that stops does."""
+        os.kill(self.process(), signal.SIGKILL)
         self.end_driver()
 
     def call(self, method, path, content=None):
