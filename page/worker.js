@@ -4,14 +4,14 @@
 // A browser asks for the worker at each start, and a page that stays open every few minutes; it is installed anew where a byte of it differs. The
 // next line, made by tests/page/page_content.py, differs with every other file, so a new version is found then, also where its files are as long as
 // before.
-// Content of the other files: ba6f1ee64aa325b95ad1fcbe0405f227cbd99af77ff8d833f8197fad44702acc
+// Content of the other files: 69ab5dfe163ca2a30a312583eec7b93b9909140fc707d7e7130aa79087f26a11
 
 const VERSION = "taskboard ";
-const FILE = /^\/(?:(?:[a-z0-9_-]+\/)?[a-z0-9_.-]+\.(?:html|css|js|svg|png|ico))?$/;
+const FILE = /^\/(?:(?:[a-z0-9_-]+\/)?[a-z0-9_.-]+\.(?:html|css|js|svg|png|ico|webmanifest))?$/;
 // Where a version has the moment when it was last compared with the server's files whole, and how long that lasts, in milliseconds.
 const COMPARED = "/kept/compared";
 const DAY = 86400000;
-// Which files a file names: those of the page, and the modules that a module imports, each from where it stands.
+// Which files a file names: those of the page, the modules that a module imports, and the icons of an app, each from where it stands.
 const NAMES = /(?:\b(?:href|src)="|\b(?:from|import)[ (]?"(?=\.))([a-z0-9_./-]+)"/g;
 const MARKS = ["etag", "last-modified", "content-length"];
 
@@ -26,10 +26,12 @@ async function load(path) {
     return { path, answer: answer.clone(), bytes: await answer.arrayBuffer() };
 }
 
-function namedBy({ path, bytes }) {
-    if (path !== "/" && !path.endsWith(".js")) return [];
-    return [...new TextDecoder().decode(bytes).matchAll(NAMES)].map(([, name]) => new URL(name, location.origin + path).pathname);
+function namesIn(path, text) {
+    if (path.endsWith(".webmanifest")) return JSON.parse(text).icons.map(({ src }) => src);
+    return path === "/" || path.endsWith(".js") ? [...text.matchAll(NAMES)].map(([, name]) => name) : [];
 }
+
+const namedBy = ({ path, bytes }) => namesIn(path, new TextDecoder().decode(bytes)).map((name) => new URL(name, location.origin + path).pathname);
 
 // All files as the server has them, from the first on, and the name of that version.
 async function loadAll() {

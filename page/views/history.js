@@ -131,7 +131,7 @@ function dayRow(day) {
 }
 
 function entryRow(entry) {
-    const about = span("about", timeOf(seconds(entry.moment)) || "00:00", ` · ${counted(entry.number)}`);
+    const about = make("span", { class: "about", title: `Number ${counted(entry.number)}` }, timeOf(seconds(entry.moment)) || "00:00");
     const what = make("span", {}, make("strong", {}, who(entry)), " ", toldOf(entry, taskLink, entry.task && taskLink(entry.task)));
     return make("li", { class: entry.number >= firstNew ? "deed new" : "deed" }, what, about);
 }

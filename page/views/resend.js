@@ -1,7 +1,7 @@
 // Opens the form of a change that was refused, or that asks before it is sent, as it was filled: so it can be mended and sent under a new
 // identifier.
 import { changes, isOwnKey } from "../core/calls.js";
-import { announce } from "../core/news.js";
+import { announce, listen } from "../core/news.js";
 import { bodyOf, forget, keep } from "../sync/outbox.js";
 import { keepDraft, readDraft } from "../store/drafts.js";
 import { go } from "../store/route.js";
@@ -25,12 +25,22 @@ function putDraft(kind, task, content, board) {
 // Puts it there, and shows that form.
 function openDraft({ board, view, task = "", kind, content }) {
     if (!putDraft(kind, task, content, board)) return false;
+    const before = location.hash;
+    wanted = FIELDS[kind] ?? "";
     go(board, view, task);
     announce("draft");
-    // (once the address is read, which shows the form)
-    setTimeout(() => find(FIELDS[kind])?.focus());
+    if (location.hash === before) focusWanted();
     return true;
 }
+
+// The field that has the focus once the address is read, which shows its form.
+let wanted = "";
+function focusWanted() {
+    const field = wanted;
+    wanted = "";
+    setTimeout(() => field && find(field)?.focus());
+}
+listen("route", focusWanted);
 
 const FORMS = {
     tasks: ({ board, form }) => openDraft({ board, view: "tasks", kind: "add", content: form }),

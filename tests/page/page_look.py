@@ -243,6 +243,15 @@ def palette(browser, title):
     browser.wait(ALL_ANSWERED)
 
 
+def installed(office):
+    """The page can be installed as an app: what a browser asks for is there."""
+    browser, board = office.browser, new_board("Installed")
+    office.begin(board)
+    told = browser.tell("Page.getAppManifest")
+    expect("the manifest", ["manifest.webmanifest", []], [told["url"].rpartition("/")[2], told["errors"]])
+    expect("what hinders its installation", [], browser.tell("Page.getInstallabilityErrors")["installabilityErrors"])
+
+
 def invited(office):
     """A link has a person's name and key, which go out of the address at once, and signs in by one press; two keys that were told stand both."""
     browser, board = office.browser, new_board("Invited")
@@ -272,4 +281,4 @@ def invited(office):
     browser.to_tab(anns)
 
 
-SCENES = (look, in_place, by_letters, invited)
+SCENES = (look, in_place, by_letters, installed, invited)
