@@ -4,7 +4,7 @@
 // A browser asks for the worker at each start, and a page that stays open every few minutes; it is installed anew where a byte of it differs. The
 // next line, made by tests/page/page_content.py, differs with every other file, so a new version is found then, also where its files are as long as
 // before.
-// Content of the other files: 69ab5dfe163ca2a30a312583eec7b93b9909140fc707d7e7130aa79087f26a11
+// Content of the other files: 9cbd6b4dc36b630f071704440f231312de74b8520a40e2d251cff4c4375c05fa
 
 const VERSION = "taskboard ";
 const FILE = /^\/(?:(?:[a-z0-9_-]+\/)?[a-z0-9_.-]+\.(?:html|css|js|svg|png|ico|webmanifest))?$/;
