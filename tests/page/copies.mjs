@@ -25,10 +25,23 @@ function chance(below) {
 const oneOf = (list) => list[chance(list.length)];
 const soon = (most) => momentOf(now() + chance(most) - 1);
 
-async function ask(path, name, body) {
+// How often what was sent goes again, under its identifier, where the connection ended before its answer: the server ends idle ones.
+const TRIES = 20;
+
+async function answerTo(path, words) {
+    for (let left = TRIES; ; left--) {
+        try {
+            const answer = await fetch(SERVER + path, words);
+            return { status: answer.status, text: await answer.text() };
+        } catch (fault) {
+            if (left === 0 || !["ECONNRESET", "EPIPE", "UND_ERR_SOCKET"].includes(fault.cause?.code)) throw fault;
+        }
+    }
+}
+
+function ask(path, name, body) {
     const headers = { "x-member": name, "x-key": KEYS[name], "x-request-id": newIdentifier() };
-    const answer = await fetch(SERVER + path, body === undefined ? { headers } : { headers, method: "POST", body });
-    return { status: answer.status, text: await answer.text() };
+    return answerTo(path, body === undefined ? { headers } : { headers, method: "POST", body });
 }
 
 const tell = (path, content) => ask(path, "ann", content === undefined ? "" : typeof content === "string" ? content : JSON.stringify(content));

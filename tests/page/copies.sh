@@ -4,7 +4,6 @@
 set -eu
 . "$(dirname "$0")/../lib/prepare.sh"
 
-"$program" init b.db ann ann-key-1
-start_server 1000000
+serve_new_file
 python3 -c "import sys; sys.path.insert(0, '$top/tests/lib'); from connecting import connected; connected($port, 10).close()"
 node --experimental-default-type=module "$top/tests/page/copies.mjs" "$port" "${CALLS:-2000}" "${SEED:-$(date +%s)}"

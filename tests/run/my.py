@@ -279,7 +279,7 @@ def several():
     for words in (["change", "3", "4", "eggs"], ["change", "1,2", "eggs"], ["change", "1-2", "3", "--", "eggs"]):
         expect(words, 2, told="A new description is for one task.", **here)
     expect(["change", "3", "400", "eggs"], 1, told="There is no task 400 on board ", **here)
-    for words in (["done", "2-9"], ["done", "3-2"], ["done", "1,9"], ["done", "1,"], ["change", "9", "x"]):
+    for words in (["done", "2-9"], ["done", "3-2"], ["done", "0-2"], ["done", "1,9"], ["done", "1,"], ["change", "9", "x"]):
         expect(words, 1, told=f"There is no task {words[1]} on board ", **here)
     for word in ("add", "change", "append", "copy", "note", "done", "list", "show", "log", "undo", "boards"):
         for words in ([word, "--help"], [word, "3", "--help"], ["help", word]):
