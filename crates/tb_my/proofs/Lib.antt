@@ -3,4 +3,5 @@ mod Fields
 mod Floatless
 mod Keys
 mod Loops
+mod Needed
 mod Weekdays

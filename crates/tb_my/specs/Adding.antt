@@ -30,19 +30,22 @@ abbrev pub deletion : Text → Option ℕ → List Text
 deletion board None = []
 deletion board (Some id) = codes "delete" ∷ board ∷ id_text id ∷ []
 
--- each uuid with a comma after it
-abbrev pub id_and_comma : Seen → Text
-id_and_comma task = id_text task.id ++ codes ","
+abbrev pub comma_and_id : Seen → Text
+comma_and_id task = codes "," ++ id_text task.id
 
-abbrev pub ids_joined : List Seen → Text
-ids_joined [] = []
-ids_joined (task ∷ tasks) = id_and_comma task ++ ids_joined tasks
+abbrev pub further_ids : List Seen → Text
+further_ids [] = []
+further_ids (task ∷ tasks) = comma_and_id task ++ further_ids tasks
+
+-- uuids with commas between them
+abbrev pub ids_joined : Seen → List Seen → Text
+ids_joined first more = id_text first.id ++ further_ids more
 
 abbrev pub with_needs : Said → List Seen → Said
 with_needs said [] = said
 with_needs said (task ∷ tasks) = record said {
   settings = said.settings
-      ++ (record { name = codes "depends"; value = Some (ids_joined (task ∷ tasks)) }) ∷ [];
+      ++ (record { name = codes "depends"; value = Some (ids_joined task tasks) }) ∷ [];
 }
 
 abbrev pub add_sent : Option ℕ → Text → Said → List Sent

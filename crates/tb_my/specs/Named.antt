@@ -1,5 +1,5 @@
 -- The tasks that words name: by places, counted from 1, by ranges of them, and by uuids.
-use Rattle.std.specs.Prelude.{ℕ, ◌+◌, ◌-◌, Bool, true, false, ◌&&◌, ◌||◌, nat_lt, is_some, List, [], ◌∷◌, ◌++◌, codes, length, take, drop, Option, Some, None, Result, Ok, Err, if◌then◌else◌}
+use Rattle.std.specs.Prelude.{ℕ, ◌+◌, ◌-◌, ◌==◌, Bool, true, false, ◌&&◌, ◌||◌, nat_lt, is_some, List, [], ◌∷◌, ◌++◌, codes, length, take, drop, Option, Some, None, Result, Ok, Err, if◌then◌else◌}
 use Rattle.std.specs.Path.{rsplit_once}
 use Rattle.tb_my.specs.Days.{Text, after_key}
 use Rattle.tb_my.specs.Look.{task_named}
@@ -20,7 +20,7 @@ abbrev pub tasks_from : List Seen → Option ℕ → Option ℕ → Option (List
 tasks_from tasks None last = None
 tasks_from tasks (Some first) None = None
 tasks_from tasks (Some first) (Some last) =
-    if nat_lt last (first - 1) || nat_lt (length tasks) last then None
+    if first == 0 || (nat_lt last first || nat_lt (length tasks) last) then None
     else Some (take (last - (first - 1)) (drop (first - 1) tasks))
 
 abbrev pub range_of : List Seen → Option (Text × Text) → Option (List Seen)

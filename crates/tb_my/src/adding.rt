@@ -1,6 +1,6 @@
 //! What `add` and `copy` ask a server for.
 ghost use Rattle.std.specs.Prelude.{◌≡◌, ◌++◌, IfOk, OnOk};
-ghost use Rattle.tb_my.specs.Adding.{add_call, add_sent, add_words, added, copied_said, copy_call, deletion, id_and_comma, ids_joined, needing, text_or, with_needs};
+ghost use Rattle.tb_my.specs.Adding.{add_call, add_sent, add_words, added, copied_said, comma_and_id, copy_call, deletion, ids_joined, needing, text_or, with_needs};
 ghost use Rattle.tb_my.specs.Outcome.{Reads};
 
 use crate::body::{add_body, added_id};
@@ -150,33 +150,33 @@ fn needing(alloc: Global, tasks: &[Seen], said: Said) -> Result<Said, MyFault>
 fn with_needs(alloc: Global, said: Said, needed: &[Seen]) -> Result<Said, AllocError>
     ensures { IfOk result (λ more. more ≡ with_needs said needed.now) }
 {
-    if needed.is_empty() {
+    let [first, more @ ..] = needed else {
         return Ok(said);
-    }
+    };
     let mut said = said;
     said.settings.push(Setting {
         name: Text::from_str(alloc, "depends")?,
-        value: Some(ids_joined(alloc, needed)?),
+        value: Some(ids_joined(alloc, first, more)?),
     })?;
     Ok(said)
 }
 
-/// The uuids of tasks, each with a comma after it.
-fn ids_joined(alloc: Global, tasks: &[Seen]) -> Result<Text, AllocError>
-    ensures { IfOk result (λ text. text ≡ ids_joined tasks.now) }
+/// The uuids of tasks, with commas between them.
+fn ids_joined(alloc: Global, first: &Seen, more: &[Seen]) -> Result<Text, AllocError>
+    ensures { IfOk result (λ text. text ≡ ids_joined first.now more.now) }
 {
-    let mut text = Text::new(alloc);
-    for task in tasks {
+    let mut text = first.id.text(alloc)?;
+    for task in more {
         push_id(alloc, &mut text, task)?;
     }
     Ok(text)
 }
 
 fn push_id(alloc: Global, text: &mut Text, task: &Seen) -> Result<(), AllocError>
-    ensures { OnOk result (text.new ≡ text.old ++ id_and_comma task.now) }
+    ensures { OnOk result (text.new ≡ text.old ++ comma_and_id task.now) }
 {
-    text.push_str(task.id.text(alloc)?.as_str())?;
-    text.push_str(",")
+    text.push_str(",")?;
+    text.push_str(task.id.text(alloc)?.as_str())
 }
 
 fn add_sent(

@@ -123,11 +123,11 @@ fn range_of(
     let Some(last) = read_number(last, u32::MAX) else {
         return Ok(None);
     };
-    let start = first.saturating_sub(1) as usize;
-    let end = last as usize;
-    if end < start || end > tasks.len() {
+    if first == 0 || last < first || last as usize > tasks.len() {
         return Ok(None);
     }
+    let start = (first - 1) as usize;
+    let end = last as usize;
     Ok(Some(Items::from_slice(alloc, &tasks[start..end])?))
 }
 
