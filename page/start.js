@@ -9,6 +9,9 @@ function takeInvitation() {
 
 export const invitation = takeInvitation();
 
+// (again.js looks for it)
+document.documentElement.dataset.begun = "";
+
 const HOUR = 3600000;
 // How often a page that stays open asks whether the server has another version, in milliseconds: by the worker's file alone, which says what
 // the others contain.

@@ -1,5 +1,5 @@
 // Keeps what is shown fresh. While the page is in sight it asks every 3 s what has happened on the board, by the next number of its history, and
-// each second the same of one of the others; a hidden page asks every 60 s. What has happened is taken into the boards (pull.js).
+// each second the same of one of the others, or of several where My day shows them; a hidden page asks every 60 s. What has happened is taken into the boards (pull.js).
 // A server without a history is asked for the board: every 15 s while it is in sight and someone does something in it, every 60 s else, and a
 // hidden page asks for nothing. Until the server answers, the board is shown as it was seen last, with its age. What is found by the clock
 // waits while someone types, so that nothing moves under their hands.
@@ -37,6 +37,8 @@ let [heard, isStale] = [{ number: 0, last: 0 }, false];
 let coming = 0;
 // What the last look at its history told; and of the other boards: when one was asked last, which, and whether that is under way.
 let [news, lastOther, turn, isHearing] = [null, 0, 0, false];
+// In how many turns My day asks each of its boards, and how many of them at once at most.
+const [TURNS, AT_ONCE] = [3, 6];
 // After how long a copy is compared with the server's whole, in milliseconds.
 const CHECKED = 7 * 86400000;
 
@@ -159,22 +161,26 @@ function relay() {
     }
 }
 
-// Takes in what has happened on one of the other boards, each in its turn.
-async function hearNext() {
-    const { who } = state;
-    const others = state.boards.map(({ board }) => board).filter((number) => number !== state.number || state.view === "day");
-    if (isHearing || others.length === 0) return;
-    isHearing = true;
-    turn = (turn + 1) % others.length;
+// Takes in what has happened on one of the other boards.
+async function hearOf(who, number) {
     try {
-        const number = others[turn];
         const { isNew } = knownTo(number) === undefined ? { isNew: false } : await pullBoard(number);
         if (isNew && state.who === who) announce("other", number);
     } catch (fault) {
         if (!(fault instanceof NoAnswer)) console.warn(fault);
-    } finally {
-        isHearing = false;
     }
+}
+
+// Hears of the other boards, each in its turn; where My day shows them, of as many at once that each has its turn soon.
+async function hearNext() {
+    const isDay = state.view === "day";
+    const others = state.boards.map(({ board }) => board).filter((number) => number !== state.number || isDay);
+    if (isHearing || others.length === 0) return;
+    isHearing = true;
+    const count = isDay ? Math.min(AT_ONCE, Math.ceil(others.length / TURNS)) : 1;
+    const next = Array.from({ length: count }, () => others[(turn = (turn + 1) % others.length)]);
+    await Promise.all(next.map((number) => hearOf(state.who, number)));
+    isHearing = false;
 }
 
 function setReach(reached) {

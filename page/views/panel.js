@@ -121,7 +121,8 @@ function drawTask(one) {
     const behind = state.board.behind(one);
     const ahead = one.depends.filter((id) => state.board.byId.has(id));
     const neighbours = [...behind, ...ahead.map((id) => state.board.byId.get(id)), state.board.byId.get(one.parent)];
-    const seen = JSON.stringify(neighbours.map((other) => other && [other.description, other.status, other.uuid]));
+    // (who becomes a reader, or no longer is one, may change other things of it)
+    const seen = JSON.stringify([here()?.role, ...neighbours.map((other) => other && [other.description, other.status, other.uuid])]);
     if (drawn === one && seen === look) return;
     drawn = one;
     look = seen;

@@ -114,14 +114,13 @@ class Office:
         self.go(board)
 
     def first_shown(self):
-        """Who is signed in, or that nobody is. A page that shows neither is loaded once more, and what it had loaded is told."""
+        """Who is signed in, or that nobody is. Of a page that shows neither for long is told what it has loaded."""
         end = time.monotonic() + self.browser.patience / 2
         while time.monotonic() < end:
             if shown := self.browser.run(SHOWN):
                 return shown
             time.sleep(0.03)
-        print(f"A PAGE SHOWED NOTHING and was loaded once more: {self.browser.run(LOADED)}", flush=True)
-        self.browser.call("POST", "/refresh")
+        print(f"A PAGE SHOWS NOTHING: {self.browser.run(LOADED)}", flush=True)
         return self.browser.wait(SHOWN)
 
     def go(self, board, view="tasks", task=""):

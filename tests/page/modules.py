@@ -40,7 +40,7 @@ def check_imports(file):
 
 def check_types(files):
     """What tsc says of the types."""
-    named = [str(file) for file in (HERE / "newer.d.ts", PAGE / "types.js", PAGE / "start.js", *files)]
+    named = [str(file) for file in (HERE / "newer.d.ts", PAGE / "types.js", PAGE / "start.js", PAGE / "again.js", *files)]
     checked = subprocess.run(["tsc", *CHECKS, *named], cwd=PAGE, stdout=subprocess.PIPE, text=True)
     faults.extend(checked.stdout.splitlines())
 

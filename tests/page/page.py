@@ -303,7 +303,7 @@ def hostile_texts(office):
         wide = browser.run("return document.documentElement.scrollWidth")
         expect("wider than the window", False, wide > 1280)
     office.shot("hostile-task")
-    expect("scripts and images", [1, 1], browser.run("return [document.scripts.length, document.images.length]"))
+    expect("scripts and images", [2, 1], browser.run("return [document.scripts.length, document.images.length]"))
     expect("code ran", None, browser.run("return window.ran ?? null"))
     browser.click("#close-panel")
 

@@ -122,6 +122,21 @@ def without_copies(office):
     expect("told of an answer", False, browser.run(IS_TOLD, "hasn't seen your boards"))
 
 
+def start_is_lost(office):
+    """A page whose first module doesn't come once loads itself anew, so that nobody looks at an empty window."""
+    browser, board = office.browser, new_board("Lost start")
+    add(board, description="Comes after all")
+    office.begin(board)
+    browser.wait(IS_LISTED, "Comes after all")
+    browser.tell("Network.enable")
+    browser.tell("Network.setBlockedURLs", urls=["*/start.js"])
+    browser.call("POST", "/refresh")
+    browser.wait("return sessionStorage.getItem('taskboard.tries') !== null")
+    browser.tell("Network.setBlockedURLs", urls=[])
+    browser.wait(IS_LISTED, "Comes after all")
+    browser.messages()
+
+
 def newer_version(office):
     """A server with other files: what is open goes on as it is, says so, and the next start has the new files, all of them and no old one."""
     browser, board = office.browser, new_board("Renewed")
@@ -517,6 +532,8 @@ def behind_a_task(office, board, task):
     browser.size(640, 450)
     office.go(board, "tasks", task)
     browser.wait(IS_OPEN)
+    # (its reader is a member by now, and may change each value)
+    browser.wait("return document.querySelectorAll('#task-facts [data-value]').length === 8")
     browser.press("n", "/", TAB)
     around = []
     for _ in range(12):
@@ -557,4 +574,4 @@ def asked_seldom(office):
     end_without()
 
 
-SCENES = (asked_seldom, without_a_line, seen_beside, without_copies, newer_version, by_keys, acts_once, keeps_its_button, read_out_once, on_paper, on_a_phone, for_readers, on_no_board)
+SCENES = (asked_seldom, without_a_line, seen_beside, without_copies, start_is_lost, newer_version, by_keys, acts_once, keeps_its_button, read_out_once, on_paper, on_a_phone, for_readers, on_no_board)

@@ -275,8 +275,10 @@ def comes_due(office):
 
 def day_asked_little(office):
     """My day asks each board for its history, and for the tasks of which that tells something."""
-    browser, first, second = office.browser, new_board("Of a day"), new_board("Of a day, too")
-    tasks = [add(board, description=f"Due on {board}", due=at(60), assignee="ann") for board in (first, second)]
+    KEYS["olga"] = "olga-key-1"
+    browser, first, second = office.browser, new_board("Of a day", olga="member"), new_board("Of a day, too", olga="member")
+    tasks = [add(board, description=f"Due on {board}", due=at(60), assignee="olga") for board in (first, second)]
+    office.begin(first, "olga")
     browser.open("about:blank")
     browser.open(f"{office.address}#/day/mine")
     listed = "return [...document.querySelectorAll('#day-list .open')].filter((row) => row.textContent.startsWith(arguments[0])).length"
