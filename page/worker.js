@@ -98,10 +98,19 @@ async function compare(isWhole) {
     if (cache) windows.forEach((window) => window.postMessage("renewed"));
 }
 
-let comparing = null;
+let [comparing, following, wantsWhole] = [null, null, false];
 
-// One comparison at a time.
-const compareOnce = (isWhole) => (comparing ??= compare(isWhole).finally(() => (comparing = null)));
+// One comparison at a time. One that is wanted meanwhile follows, however the first ends: its server may have been renewed or away since.
+function compareOnce(isWhole) {
+    if (!comparing) return (comparing = compare(isWhole).finally(() => (comparing = null)));
+    wantsWhole ||= isWhole;
+    const follow = () => {
+        const isNextWhole = wantsWhole;
+        [following, wantsWhole] = [null, false];
+        return compareOnce(isNextWhole);
+    };
+    return (following ??= comparing.then(follow, follow));
+}
 
 async function answer({ request, clientId, resultingClientId }, path) {
     const before = request.mode === "navigate" ? null : opened.get(clientId);
