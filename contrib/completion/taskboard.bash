@@ -75,30 +75,50 @@ _taskboard_of_tb() {
 # What stands behind the first word of `my`.
 _taskboard_behind_my() {
     case $1 in
-    list | next | projects | tags) _taskboard_words "mine overdue blocked waiting recurring done due:today due:week done:week not: --sort --json" "$2" ;;
+    list | ls | next | projects | tags) _taskboard_words "mine overdue blocked waiting recurring done all due:today due:week due:before: due:after: done:week for: pri: project: status: not: --sort --json --help" "$2" ;;
+    add | change | modify | append | prepend | copy) _taskboard_words "due: wait: scheduled: until: pri: project: tags: for: rec: depends: --help" "$2" ;;
+    boards | people | show | log) _taskboard_words "--json --help" "$2" ;;
     --sort) _taskboard_words "urgency due project" "$2" ;;
+    help) _taskboard_of_my "$2" ;;
     import)
         if [ "${2#-}" != "$2" ]; then
-            _taskboard_words "--check --clean --skip" "$2"
+            _taskboard_words "--check --clean --skip --help" "$2"
         else
             _taskboard_files "$2"
         fi
         ;;
+    *) _taskboard_words "--help" "$2" ;;
     esac
+}
+
+# The words of `my` or of `tb`, the first of which is at the place $1, behind --board B and --for SECONDS.
+_taskboard_from() {
+    local at=$1 word=$3
+    while [ "$at" -lt "$COMP_CWORD" ]; do
+        case ${COMP_WORDS[at]} in
+        --board | --for) at=$((at + 2)) ;;
+        *) break ;;
+        esac
+    done
+    if [ "$at" -gt "$COMP_CWORD" ]; then
+        return
+    elif [ "$at" -lt "$COMP_CWORD" ] && [ "${COMP_WORDS[COMP_CWORD - 1]}" = --sort ]; then
+        _taskboard_behind_my --sort "$word"
+    elif [ "$at" -lt "$COMP_CWORD" ]; then
+        _taskboard_behind_my "${COMP_WORDS[at]}" "$word"
+    elif [ "${word#-}" != "$word" ]; then
+        _taskboard_words "--board --for --help" "$word"
+    else
+        "$2" "$word"
+    fi
 }
 
 _tb() {
     COMPREPLY=()
     if [ "${COMP_WORDS[1]}" = send ] && [ "$COMP_CWORD" -gt 1 ]; then
         _taskboard_of_send "$@"
-    elif [ "$COMP_CWORD" -eq 1 ] && [ "${2#-}" != "$2" ]; then
-        _taskboard_words "--board" "$2"
-    elif [ "$COMP_CWORD" -eq 1 ]; then
-        _taskboard_of_tb "$2"
-    elif [ "${COMP_WORDS[COMP_CWORD - 1]}" = --sort ]; then
-        _taskboard_behind_my --sort "$2"
     else
-        _taskboard_behind_my "${COMP_WORDS[1]}" "$2"
+        _taskboard_from 1 _taskboard_of_tb "$2"
     fi
 }
 
@@ -112,7 +132,7 @@ _taskboard() {
     case $order:$COMP_CWORD in
     serve:*) _taskboard_of_serve "$@" ;;
     send:*) _taskboard_of_send "$@" ;;
-    my:2) _taskboard_of_my "$2" ;;
+    my:*) _taskboard_from 2 _taskboard_of_my "$2" ;;
     init:2 | import:2 | list:2 | export:2 | todo:2 | check:2 | key:2) _taskboard_files "$2" ;;
     import:7) _taskboard_words "json todo" "$2" ;;
     import:8) _taskboard_words "--all --check --clean --skip" "$2" ;;

@@ -182,6 +182,14 @@ bash_offers() {
     expect_offered "import" taskboard im
     expect_offered "kept.db kept.db-wal" taskboard list kept
     expect_offered "done delete" taskboard my d
+    expect_offered "done delete" taskboard my --board 1 --for 5 d
+    expect_offered "" taskboard my --board ""
+    expect_offered "--board --for --help" taskboard my -
+    expect_offered "status:" taskboard my list sta
+    expect_offered "urgency due project" taskboard my --board 1 next --sort ""
+    expect_offered "pri: project:" taskboard my add p
+    expect_offered "--json --help" taskboard my show --
+    expect_offered "--help" taskboard my done --
     expect_offered "kept.db kept.db-wal" taskboard serve --port 8080 kept
     expect_offered "--port --connections --forever --page --log --growth --burst" taskboard serve kept.db ""
     expect_offered "--forever" taskboard serve kept.db --port 8080 --f
