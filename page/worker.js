@@ -4,7 +4,7 @@
 // A browser asks for the worker at each start, and a page that stays open every few minutes; it is installed anew where a byte of it differs. The
 // next line, made by tests/page/page_content.py, differs with every other file, so a new version is found then, also where its files are as long as
 // before.
-// Content of the other files: 0d302a8bc4d0547ba7b8949002d2245e144196ed7e9e795f007f9aa8d470edd1
+// Content of the other files: 2793366a96b4d69c5e26c4faf0174650d11bae92b98d62fe586f8de9a5a746d4
 
 const VERSION = "taskboard ";
 const FILE = /^\/(?:(?:[a-z0-9_-]+\/)?[a-z0-9_.-]+\.(?:html|css|js|svg|png|ico|webmanifest))?$/;
