@@ -156,7 +156,7 @@ def setup(nginx):
     status, shown = typed([nginx.address(), "ann", "\x03"], home)
     expect(f"an interruption: {status}, {shown}", status == 1 and "nothing was written" in shown and not os.path.exists(config))
     status, shown = typed([nginx.address(), "ann", KEY, "Nowhere"], home)
-    expect(f"no such board: {status}, {shown}", status == 1 and "none of your boards has the title Nowhere" in shown and not os.path.exists(config))
+    expect(f"no such board: {status}, {shown}", status == 1 and "none of your boards has the number or the title Nowhere" in shown and not os.path.exists(config))
     status, shown = typed([nginx.address(), "ann", KEY, "board"], home)
     expect(f"setup: {status}, {shown}", status == 0 and KEY not in shown and "1  board" in shown)
     with open(config) as file:
@@ -170,7 +170,13 @@ def setup(nginx):
     with open(config) as file:
         expect("another board", file.read() == f"# mine\nserver = {nginx.address()}\nname = ann\nboard = 1\n")
     ran = subprocess.run([f"{BIN}/tb", "setup"], input=f"http://127.0.0.1:{PORT}/\nann\n", capture_output=True, text=True, env=BARE | {"HOME": home}, timeout=60)
-    expect(f"another scheme: {ran}", ran.returncode == 1 and "has no port" in ran.stderr)
+    expect(f"another scheme: {ran}", ran.returncode == 1 and "without http://" in ran.stderr)
+    with open(config, "rb") as file:
+        kept = file.read()
+    for answers, told in ((("", "ann", KEY, "99"), "has the number or the title 99"), (("127.0.0.1",), "has no port"), (("127.0.0.1:1", "Ann"), "a name has 1 to 32")):
+        ran = subprocess.run([f"{BIN}/tb", "setup"], input="".join(f"{it}\n" for it in answers), capture_output=True, text=True, env=BARE | {"HOME": home}, timeout=60)
+        with open(config, "rb") as file:
+            expect(f"{answers} in setup: {ran}", ran.returncode == 1 and told in ran.stderr and file.read() == kept)
 
 
 def untrusted(nginx, watched):

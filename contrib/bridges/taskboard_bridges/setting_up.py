@@ -86,6 +86,10 @@ def ask_key(path: str) -> str:
 def ask_server(before: str) -> str:
     """The server, where it has a form that `tb` takes."""
     server = ask("Server, as https://boards.example.org or 127.0.0.1:8080", before)
+    if not server:
+        raise Fault("no server was named. Nothing was written")
+    if server.startswith("http://"):
+        raise Fault(f"without TLS write the server as 127.0.0.1:8080, without http:// and what follows the port, and not {server}. Nothing was written")
     place = place_of(server)
     if not place.is_secure and not re.fullmatch(r"[^/]+:[0-9]+", server):
         raise Fault(f"{server} has no port, as 127.0.0.1:8080 has. Nothing was written")
@@ -98,8 +102,10 @@ def ask_board(boards: list[dict[str, object]], before: str) -> str:
         print(f"  {it['board']}  {it['title']}", file=sys.stderr)
     board = ask("Board, by its number or title, or nothing", before) if boards else ""
     found = [it for it in boards if board in (str(it["board"]), it["title"])]
-    if board and len(found) != 1 and not any(str(it["board"]) == board for it in found):
-        raise Fault(f"{'several' if found else 'none'} of your boards {'have' if found else 'has'} the title {board}: give a number. Nothing was written")
+    if board and not found:
+        raise Fault(f"none of your boards has the number or the title {board}. Nothing was written")
+    if len(found) > 1 and not any(str(it["board"]) == board for it in found):
+        raise Fault(f"several of your boards have the title {board}: give a number. Nothing was written")
     return board
 
 
