@@ -39,6 +39,8 @@ installs_twice() {
     install_from "$top" || fail "it wasn't installed: $(cat said)"
     cmp -s "$prefix/bin/taskboard" "$program" || fail "another program was installed"
     "$prefix/bin/tb" --help | grep -q "^taskboard my " || fail "tb isn't taskboard my"
+    ln -s "$prefix/bin/tb" linked
+    ./linked --help | grep -q "^taskboard my " || fail "a link to tb doesn't find the program"
     cmp -s "$prefix/share/taskboard/page/index.html" "$top/page/index.html" || fail "another page was installed"
     grep -q "systemctl link $prefix/lib/systemd/system/taskboard\*" said || fail "it doesn't say how systemd finds the units: $(cat said)"
     grep -q "^ExecStart=/usr/bin/env .* $prefix/bin/taskboard serve .* --page $prefix/share/taskboard/page " "$prefix/lib/systemd/system/taskboard.service" ||
