@@ -1,5 +1,6 @@
 -- The tasks that words name: by places, counted from 1, by ranges of them, and by uuids.
 use Rattle.std.specs.Prelude.{ℕ, ◌+◌, ◌-◌, ◌==◌, Bool, true, false, ◌&&◌, ◌||◌, nat_lt, is_some, List, [], ◌∷◌, ◌++◌, codes, length, take, drop, Option, Some, None, Result, Ok, Err, if◌then◌else◌}
+use Rattle.std.specs.List.{list_any}
 use Rattle.std.specs.Path.{rsplit_once}
 use Rattle.tb_my.specs.Days.{Text, after_key}
 use Rattle.tb_my.specs.Look.{task_named}
@@ -43,12 +44,21 @@ abbrev pub lacking : Bool → Text → MyFault
 lacking true word = NoPlace word
 lacking false word = NoTask word
 
+abbrev pub has_task : ℕ → List Seen → Bool
+has_task id tasks = list_any (λ task. task.id == id) tasks
+
+-- Rule: a task that is named twice is changed once. Tried by my.sh.
+abbrev pub with_new : List Seen → List Seen → List Seen
+with_new named [] = named
+with_new named (task ∷ run) =
+    with_new (if has_task task.id named then named else named ++ task ∷ []) run
+
 abbrev pub with_parts : List Seen → Bool → List Seen → Text → List Text
     → Result (List Seen) MyFault
 with_parts tasks is_further named word [] = Ok named
 with_parts tasks is_further named word (part ∷ parts) = do
   run ← or_fault (lacking is_further word) (run_named tasks part)
-  with_parts tasks is_further (named ++ run) word parts
+  with_parts tasks is_further (with_new named run) word parts
 
 abbrev pub with_named : List Seen → Bool → List Seen → Text → Result (List Seen) MyFault
 with_named tasks is_further named word =

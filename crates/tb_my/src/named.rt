@@ -1,7 +1,7 @@
 //! The tasks that words name.
 ghost use Rattle.std.specs.Path.{rsplit_once};
 ghost use Rattle.std.specs.Prelude.{◌≡◌, ◌≤◌, ◌++◌, Err, IfOk, OnOk, Some, length, map};
-ghost use Rattle.tb_my.specs.Named.{are_places, count_places, is_place, is_place_part, is_range, is_range_of, lacking, range_named, range_of, run_named, tasks_named, with_named, with_parts};
+ghost use Rattle.tb_my.specs.Named.{are_places, count_places, has_task, is_place, is_place_part, is_range, is_range_of, lacking, range_named, range_of, run_named, tasks_named, with_named, with_new, with_parts};
 ghost use Rattle.tb_my.specs.Outcome.{Fails, Reads};
 ghost use Rattle.tb_my.specs.declared.fault.MyFault.{MyFault as Fault};
 
@@ -62,7 +62,7 @@ fn with_parts(
         let Some(run) = run_named(alloc, tasks, part)? else {
             return Err(lacking(alloc, is_further, word.as_str()));
         };
-        push_seen(&mut named, run.as_slice())?;
+        push_new(&mut named, run.as_slice())?;
     }
     Ok(named)
 }
@@ -77,13 +77,22 @@ fn lacking(alloc: Global, is_further: bool, word: &str) -> MyFault
     }
 }
 
-fn push_seen(named: &mut Items<Seen>, more: &[Seen]) -> Result<(), AllocError>
-    ensures { OnOk result (named.new ≡ named.old ++ more.now) }
+/// Puts those at the end that aren't there yet: a task that is named again stays where it is.
+fn push_new(named: &mut Items<Seen>, more: &[Seen]) -> Result<(), AllocError>
+    ensures { OnOk result (named.new ≡ with_new named.old more.now) }
 {
     for seen in more {
-        named.push(seen.duplicate()?)?;
+        if !has_task(named.as_slice(), seen.id) {
+            named.push(seen.duplicate()?)?;
+        }
     }
     Ok(())
+}
+
+fn has_task(tasks: &[Seen], id: TaskId) -> bool
+    ensures { result ≡ has_task id tasks.now }
+{
+    tasks.iter().any(|task| task.id == id)
 }
 
 /// The tasks of a place, of a range of places, or of a uuid.
