@@ -294,7 +294,7 @@ def several():
     if (tasks(board)[2]["description"], tasks(board)[2]["priority"]) != ("2 x 4 eggs due:fri --help and milk", "L"):
         fail(f"the texts are {tasks(board)[2]}")
     expect(["note", "1-2", "seen"], 0, "Noted: a\nNoted: b\n", **here)
-    expect(["note", "1", "--", "2", "eggs"], 0, "Noted: a\n", **here)
+    expect(["note", "1,1", "1-1", "--", "2", "eggs"], 0, "Noted: a\n", **here)
     if [[note["description"] for note in task.get("annotations", [])] for task in tasks(board)[:2]] != [["seen", "2 eggs"], ["seen"]]:
         fail(f"the notes are {tasks(board)[:2]}")
     expect(["copy", "3", "due:2099-01-01", "@y"], 0, "Added 7: 2 x 4 eggs due:fri --help and milk\n", **here)
