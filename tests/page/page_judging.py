@@ -72,6 +72,12 @@ def family(random, count):
         yield task | ({"depends": random.sample(IDS, 2)} if random.random() < 0.3 else {})
 
 
+# A template with its first instance, and another one for the same place, which comes after it: draws have that by chance alone.
+PLACE = {"description": "Drawn", "recur": "weekly", "due": DUE}
+HELD = [{"uuid": IDS[0], **PLACE, "status": "recurring", "mask": "-"}, {"uuid": IDS[1], **PLACE, "parent": IDS[0], "imask": 0, "status": "pending"}]
+HOLDS_TOO = [{"uuid": IDS[2], **PLACE, "parent": IDS[0], "imask": 0, "status": "pending"}]
+
+
 def losses(plan):
     """How many instances, links and members a plan says are lost."""
     told = [what for one in plan["losses"] for what in one["what"]]
@@ -96,8 +102,9 @@ def judged_together(office):
     """Templates with their instances come to boards in two files each: what is told of the second is what the program counts."""
     seed, random = seeded()
     office.begin(new_board("Judged together"))
-    first = [sent(plan) for plan in foretold(office.browser, [[json.dumps(list(family(random, 4))), []] for _ in range(200)])]
-    pairs = [[json.dumps(list(family(random, 5))), board] for board in boards(first)]
+    draw = lambda count: [list(family(random, count)) for _ in range(200)]
+    first = [sent(plan) for plan in foretold(office.browser, [[json.dumps(tasks), []] for tasks in [HELD, *draw(4)]])]
+    pairs = [[json.dumps(tasks), board] for tasks, board in zip([HOLDS_TOO, *draw(5)], boards(first), strict=True)]
     second = foretold(office.browser, pairs)
     found = answers([(before, sent(plan)) for before, plan in zip(first, second, strict=True)])
     for [text, board], plan, answer in zip(pairs, second, found):
