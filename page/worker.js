@@ -4,7 +4,7 @@
 // A browser asks for the worker at each start, and a page that stays open every few minutes; it is installed anew where a byte of it differs. The
 // next line, made by tests/page/page_content.py, differs with every other file, so a new version is found then, also where its files are as long as
 // before.
-// Content of the other files: 2793366a96b4d69c5e26c4faf0174650d11bae92b98d62fe586f8de9a5a746d4
+// Content of the other files: 5c0b6efd6f74b72bcc78e1b440bc21e6d5613757439a7f031a73be85e8d5715b
 
 const VERSION = "taskboard ";
 const FILE = /^\/(?:(?:[a-z0-9_-]+\/)?[a-z0-9_.-]+\.(?:html|css|js|svg|png|ico|webmanifest))?$/;

@@ -101,6 +101,8 @@ function takeEdited({ edits, gone }) {
     lists = null;
 }
 
+// Once the session has the key of now: after a stop it learns that from the device.
+export const keyKnown = () => knowing;
 const inKnowing = (work) => (knowing = knowing.then(work).catch(console.error));
 
 tabs.onmessage = async ({ data }) => {

@@ -2,7 +2,7 @@
 import { changes, isOwnKey } from "../core/calls.js";
 import { listen } from "../core/news.js";
 import { faultInKey } from "../core/rules.js";
-import { keep, waiting } from "../sync/outbox.js";
+import { keep, keyKnown, waiting } from "../sync/outbox.js";
 import { newKey } from "../sync/session.js";
 import { state } from "../store/store.js";
 import { check, isWhole, whenSent } from "../ui/check.js";
@@ -41,6 +41,7 @@ function faultIn(before, after) {
 async function changeKey(form) {
     const [before, after] = ["key-before", "key-after"].map((id) => find(id).value);
     if (!isWhole(form)) return;
+    await keyKnown();
     const fault = faultIn(before, after);
     find("account-fault").textContent = fault;
     if (fault) return;

@@ -130,6 +130,7 @@ def own_key(office):
     relay.break_off(LOSES_POSTS)
     browser.type("#add-line", "Ahead of it" + ENTER)
     change_key(browser, before, after)
+    is_taken(browser)
     browser.type("#add-line", "Behind it" + ENTER)
     browser.wait(IS_TOLD, "3 changes wait here")
     changes, *_ = json.loads(browser.run(DEVICE))
@@ -153,12 +154,18 @@ def own_key(office):
     expect("keys after signing out", [], [key for key in (before, after) if key in left])
 
 
+def is_taken(browser):
+    """The form takes the keys, once the page knows which one is that of now."""
+    browser.wait("return !document.getElementById('account-dialog').open")
+
+
 def go_up_to(step, office, before, after):
     """Changes the own key, and another thing behind it, up to a step."""
     browser, relay = office.browser, office.relay
     mode, hindrance = STEPS[step]
     relay.break_off(mode if mode is not None else LOSES_POSTS)
     change_key(browser, before, after)
+    is_taken(browser)
     browser.type("#add-line", f"Behind the stop {step}" + ENTER)
     browser.wait(IS_TOLD, "2 changes wait here")
     browser.wait(ARE_KEPT, 2)
