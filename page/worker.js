@@ -4,7 +4,7 @@
 // A browser asks for the worker at each start, and a page that stays open every few minutes; it is installed anew where a byte of it differs. The
 // next line, made by tests/page/page_content.py, differs with every other file, so a new version is found then, also where its files are as long as
 // before.
-// Content of the other files: 5c0b6efd6f74b72bcc78e1b440bc21e6d5613757439a7f031a73be85e8d5715b
+// Content of the other files: 2b814cd47850f76a555bd8d884b174e1aae04bdf46bab781a7cb3f2a71764cc1
 
 const VERSION = "taskboard ";
 const FILE = /^\/(?:(?:[a-z0-9_-]+\/)?[a-z0-9_.-]+\.(?:html|css|js|svg|png|ico|webmanifest))?$/;
