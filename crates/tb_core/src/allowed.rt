@@ -13,6 +13,7 @@ pub fn allows(role: Role, command: &BoardCommand) -> bool
         BoardCommand::Add { .. }
         | BoardCommand::OnTask { .. }
         | BoardCommand::Modify { .. }
+        | BoardCommand::Edit { .. }
         | BoardCommand::Depend { .. }
         | BoardCommand::Undepend { .. }
         | BoardCommand::Import(_)

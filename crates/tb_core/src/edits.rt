@@ -133,7 +133,7 @@ fn filled_text(value: &Option<Given>) -> Result<Option<NonEmptyText>, AllocError
     }
 }
 
-fn moment_given(value: &Option<Given>) -> Option<Moment>
+pub fn moment_given(value: &Option<Given>) -> Option<Moment>
     ensures { result ≡ given_moment value.now }
 {
     match value {
@@ -142,7 +142,7 @@ fn moment_given(value: &Option<Given>) -> Option<Moment>
     }
 }
 
-fn priority_given(value: &Option<Given>) -> Option<Priority>
+pub fn priority_given(value: &Option<Given>) -> Option<Priority>
     ensures { result ≡ option_and_then priority_in value.now }
 {
     match value {

@@ -9,6 +9,7 @@ mod add;
 mod allowed;
 mod command;
 mod deciding;
+mod edit;
 mod edits;
 mod effect;
 mod giving;

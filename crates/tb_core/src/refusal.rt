@@ -2,9 +2,10 @@ ghost use Rattle.std.specs.Prelude.{◌≡◌};
 ghost use Rattle.tb_core.specs.Refusal.{number_of, status_of};
 
 use tb_task::Field;
+use tb_values::NonEmptyText;
 
 /// Why a command is refused, in order of the numbers.
-#[derive(Clone, Copy, Debug, PartialEq, Eq)]
+#[derive(Debug, Drop)]
 pub enum Refusal {
     /// Nobody has the name, or the key is another.
     UnknownCaller,
@@ -29,12 +30,14 @@ pub enum Refusal {
     NameTaken,
     /// The key that is to be changed is another.
     KeyDiffers,
+    /// The task holds something else under this name than was seen.
+    Changed { name: NonEmptyText },
 }
 
 impl Refusal {
     /// Its place in the order: of several refusals that hold the least is answered.
-    pub fn number(self) -> u8
-        ensures { result ≡ number_of self }
+    pub fn number(&self) -> u8
+        ensures { result ≡ number_of self.now }
     {
         match self {
             Refusal::UnknownCaller => 1,
@@ -53,12 +56,13 @@ impl Refusal {
             Refusal::LastOwner => 14,
             Refusal::NameTaken => 15,
             Refusal::KeyDiffers => 16,
+            Refusal::Changed { .. } => 17,
         }
     }
 
     /// The status code of HTTP under which it is answered.
-    pub fn status(self) -> u16
-        ensures { result ≡ status_of self }
+    pub fn status(&self) -> u16
+        ensures { result ≡ status_of self.now }
     {
         match self {
             Refusal::UnknownCaller => 401,
@@ -74,7 +78,8 @@ impl Refusal {
             | Refusal::Full
             | Refusal::LastOwner
             | Refusal::NameTaken
-            | Refusal::KeyDiffers => 409,
+            | Refusal::KeyDiffers
+            | Refusal::Changed { .. } => 409,
         }
     }
 }

@@ -1,3 +1,4 @@
 pub mod Answered
+pub mod Naming
 pub mod Numbers
 pub mod QuietSweeps

@@ -5,4 +5,5 @@ pub mod Extending
 pub mod Keeping
 pub mod Noting
 pub mod QuietBoards
+pub mod Rooms
 pub mod Settled
