@@ -8,7 +8,6 @@ pub mod FirstWait
 pub mod Good
 pub mod InstancePlaces
 pub mod Instances
-pub mod LinkRoom
 pub mod Links
 pub mod Marks
 pub mod Names

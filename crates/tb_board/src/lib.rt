@@ -14,7 +14,6 @@ mod first;
 mod first_wait;
 mod gone;
 mod key;
-mod link_room;
 mod links;
 mod name;
 mod numbers;
@@ -37,7 +36,6 @@ pub use draft::Draft;
 pub use first::place_of_board;
 pub use gone::{Gone, gone_without};
 pub use key::Key;
-pub use link_room::{has_more_links, room_for_links};
 pub use links::{
     Waits, acyclic_boards_have_no_walks_back, is_acyclic_board, is_led, places_of, waits_of,
     walks_are_found,

@@ -13,7 +13,6 @@ use Rattle.tb_core.specs.declared.command.AnswerDetail.{AnswerDetail}
 use Rattle.tb_core.specs.declared.command.AnswerDetail.TheVariants.{Added, Changed, Imported, TodoImported, Swept}
 use Rattle.tb_core.specs.declared.refusal.Refusal.{Refusal}
 use Rattle.tb_core.specs.declared.refusal.Refusal.TheVariants.{UnknownCaller, IdReused, NoBoard, NotAllowed, NoTask, WrongStatus, UuidTaken, BadTask, BadTaskAt, TemplateFixed, NoLink, Cycle, Full, NoPerson, LastOwner, NameTaken, KeyDiffers}
-use Rattle.tb_core.specs.declared.refusal.Refusal.TheVariants as refusal
 
 abbrev pub refusal_name : Refusal → List ℕ
 refusal_name UnknownCaller = codes "UnknownCaller"
@@ -33,7 +32,6 @@ refusal_name NoPerson = codes "NoPerson"
 refusal_name LastOwner = codes "LastOwner"
 refusal_name NameTaken = codes "NameTaken"
 refusal_name KeyDiffers = codes "KeyDiffers"
-refusal_name (refusal.Changed name) = codes "Changed"
 
 abbrev pub field_name : Field → List ℕ
 field_name EmptyDescription = codes "EmptyDescription"
@@ -41,7 +39,7 @@ field_name BadTag = codes "BadTag"
 field_name BadText = codes "BadText"
 field_name BadPair = codes "BadPair"
 
--- what is wrong with the task, or the name under which it holds something else, where that is why
+-- what is wrong with the task, where that is why
 abbrev pub refused_field : Refusal → Option (List ℕ)
 refused_field UnknownCaller = None
 refused_field IdReused = None
@@ -60,7 +58,6 @@ refused_field NoPerson = None
 refused_field LastOwner = None
 refused_field NameTaken = None
 refused_field KeyDiffers = None
-refused_field (refusal.Changed name) = Some name
 
 -- which task of a list it is, counted from 0, where that is why
 abbrev pub refused_place : Refusal → Option ℕ
@@ -81,7 +78,6 @@ refused_place NoPerson = None
 refused_place LastOwner = None
 refused_place NameTaken = None
 refused_place KeyDiffers = None
-refused_place (refusal.Changed name) = None
 
 -- the members in front of which a field stands, if there is one
 abbrev pub with_field : Option (List ℕ) → Members → Data

@@ -12,8 +12,8 @@ use tb_core::{Answer, AnswerDetail, BoardAnswer, Refusal};
 use tb_import::ImportCounts;
 use tb_task::{Field, TaskId};
 
-pub(crate) fn body_of_refusal(alloc: Global, refusal: &Refusal) -> Result<Value, AllocError>
-    ensures { IfOk result (λ body. view body ≡ refusal_body refusal.now) }
+pub(crate) fn body_of_refusal(alloc: Global, refusal: Refusal) -> Result<Value, AllocError>
+    ensures { IfOk result (λ body. view body ≡ refusal_body refusal) }
 {
     let name = name_of_refusal(refusal);
     let number = refusal.number();
@@ -155,8 +155,8 @@ fn body_of_sweep(alloc: Global, answer: &BoardAnswer) -> Result<Value, AllocErro
     json!(in alloc; {"added": added, "board": board, "more": more})
 }
 
-fn name_of_refusal(refusal: &Refusal) -> &'static str
-    ensures { result.now ≡ refusal_name refusal.now }
+fn name_of_refusal(refusal: Refusal) -> &'static str
+    ensures { result.now ≡ refusal_name refusal }
 {
     match refusal {
         Refusal::UnknownCaller => "UnknownCaller",
@@ -175,26 +175,24 @@ fn name_of_refusal(refusal: &Refusal) -> &'static str
         Refusal::LastOwner => "LastOwner",
         Refusal::NameTaken => "NameTaken",
         Refusal::KeyDiffers => "KeyDiffers",
-        Refusal::Changed { .. } => "Changed",
     }
 }
 
-fn field_of_refusal(refusal: &Refusal) -> Option<&str>
-    ensures { option_map (λ field. field.now) result ≡ refused_field refusal.now }
+fn field_of_refusal(refusal: Refusal) -> Option<&'static str>
+    ensures { option_map (λ field. field.now) result ≡ refused_field refusal }
 {
     match refusal {
-        Refusal::BadTask(field) | Refusal::BadTaskAt { field, .. } => Some(name_of_field(*field)),
-        Refusal::Changed { name } => Some(name.as_str()),
+        Refusal::BadTask(field) | Refusal::BadTaskAt { field, .. } => Some(name_of_field(field)),
         _ => None,
     }
 }
 
 /// Which task of a list is wrong.
-fn place_of_refusal(refusal: &Refusal) -> Option<usize>
-    ensures { result ≡ refused_place refusal.now }
+fn place_of_refusal(refusal: Refusal) -> Option<usize>
+    ensures { result ≡ refused_place refusal }
 {
     match refusal {
-        Refusal::BadTaskAt { at, .. } => Some(*at),
+        Refusal::BadTaskAt { at, .. } => Some(at),
         _ => None,
     }
 }

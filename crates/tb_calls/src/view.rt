@@ -7,8 +7,6 @@ pub enum View {
     Listing(u32),
     /// All tasks of a board as JSON.
     Export(u32),
-    /// The tasks of a board from a place on as JSON, counted from 1.
-    ExportFrom(u32, u32),
     /// A line of todo.txt for each task of a board that has one.
     Todo(u32),
     /// One task of a board as JSON.

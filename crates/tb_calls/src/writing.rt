@@ -21,20 +21,14 @@ pub fn reply_to(alloc: Global, answer: &Result<Answer, Refusal>) -> Result<Reply
             let body = body_of_answer(alloc, answer)?;
             write_reply(alloc, 0, 200, &body)
         }
-        Err(refusal) => reply_to_refusal(alloc, refusal),
+        Err(refusal) => reply_to_refused(alloc, *refusal),
     }
 }
 
 /// The reply to what is refused.
+#[tactic(auto, unfolding(crate::specs::Reply::reply_of))]
 pub fn reply_to_refused(alloc: Global, refusal: Refusal) -> Result<Reply, AllocError>
     ensures { IfOk result (λ reply. reply ≡ reply_of (Err refusal)) }
-{
-    reply_to_refusal(alloc, &refusal)
-}
-
-#[tactic(auto, unfolding(crate::specs::Reply::reply_of))]
-fn reply_to_refusal(alloc: Global, refusal: &Refusal) -> Result<Reply, AllocError>
-    ensures { IfOk result (λ reply. reply ≡ reply_of (Err refusal.now)) }
 {
     let body = body_of_refusal(alloc, refusal)?;
     write_reply(alloc, refusal.number(), refusal.status(), &body)

@@ -29,7 +29,6 @@ use Rattle.tb_core.specs.declared.command.Command.{Command}
 use Rattle.tb_core.specs.declared.command.Command.TheVariants as Commands
 use Rattle.tb_core.specs.declared.command.BoardCommand.{BoardCommand}
 use Rattle.tb_core.specs.declared.command.BoardCommand.TheVariants.{Add, OnTask, Modify, Depend, Undepend, SetAhead, Retitle, Sweep, Import}
-use Rattle.tb_core.specs.declared.command.BoardCommand.TheVariants as on
 use Rattle.tb_core.specs.declared.command.Import.TheVariants.{Json, Todo}
 use Rattle.tb_core.specs.declared.command.AnswerDetail.{AnswerDetail}
 use Rattle.tb_core.specs.declared.command.AnswerDetail.TheVariants.{Swept}
@@ -71,7 +70,6 @@ looks_judged : (b : Board) (c : BoardCommand) (m : ℕ) → is_first_board_comma
 looks_judged b (Add i) m command = looks_unless b _ (least (add_refusals b i)) _ refl
 looks_judged b (OnTask id a) m command = looks_unless b _ (least (action_refusals b id a)) _ refl
 looks_judged b (Modify id es) m command = looks_unless b _ (least (modify_refusals b id es m)) _ refl
-looks_judged b (on.Edit id set was) m command = absurd (true≢false (sym command))
 looks_judged b (Depend id on) m command = looks_unless b _ (least (depend_refusals b id on)) _ refl
 looks_judged b (Undepend id on) m command = looks_unless b _ (least (undepend_refusals b id on)) _ refl
 looks_judged b (SetAhead ahead) m command = absurd (true≢false (sym command))
@@ -215,7 +213,6 @@ command_same : (w : World) (name : List ℕ) (n : ℕ) (c : BoardCommand) (m : �
 command_same w name n (Add i) m first command = decided_same w (number_of w name) (Some n) (Add i) m first command (λ role may. may)
 command_same w name n (OnTask id a) m first command = decided_same w (number_of w name) (Some n) (OnTask id a) m first command (λ role may. may)
 command_same w name n (Modify id es) m first command = decided_same w (number_of w name) (Some n) (Modify id es) m first command (λ role may. may)
-command_same w name n (on.Edit id set was) m first command = absurd (true≢false (sym command))
 command_same w name n (Depend id on) m first command = decided_same w (number_of w name) (Some n) (Depend id on) m first command (λ role may. may)
 command_same w name n (Undepend id on) m first command = decided_same w (number_of w name) (Some n) (Undepend id on) m first command (λ role may. may)
 command_same w name n (SetAhead ahead) m first command = absurd (true≢false (sym command))

@@ -9,21 +9,20 @@ use Rattle.tb_board.specs.Links.{leads_on}
 use Rattle.tb_board.specs.Walks.{DependsOn, IsTaskWalk}
 use Rattle.tb_board.proofs.Walking.{leads_by_walks}
 use Rattle.tb_core.specs.declared.command.AnswerDetail.{AnswerDetail}
-use Rattle.tb_core.specs.declared.refusal.Refusal.TheVariants.{Cycle, Full, NoTask, WrongStatus}
+use Rattle.tb_core.specs.declared.refusal.Refusal.TheVariants.{Cycle, NoTask, WrongStatus}
 use Rattle.tb_core.specs.Action.{of_task}
 use Rattle.tb_core.specs.Cycles.{AreCyclesRefused}
-use Rattle.tb_core.specs.Linking.{closes_walk, depends_on, is_open_task, lacks_either, lacks_link_room}
+use Rattle.tb_core.specs.Linking.{closes_walk, depends_on, is_open_task, lacks_either}
 use Rattle.tb_core.specs.Refusals.{least, unless_refused, where_holds}
 
--- a cycle is answered exactly where neither of the refusals before it holds
-last_alone : (lacks wrong closes full : Bool) (b : Board) (detail : AnswerDetail)
-    → (unless_refused (least (where_holds NoTask lacks ∷ where_holds WrongStatus wrong ∷ least (where_holds Cycle closes ∷ where_holds Full full ∷ []) ∷ [])) b detail ≡ Err Cycle)
+-- the last of three refusals is answered exactly where it alone holds
+last_alone : (lacks wrong closes : Bool) (b : Board) (detail : AnswerDetail)
+    → (unless_refused (least (where_holds NoTask lacks ∷ where_holds WrongStatus wrong ∷ where_holds Cycle closes ∷ [])) b detail ≡ Err Cycle)
     ↔ ((least (where_holds NoTask lacks ∷ where_holds WrongStatus wrong ∷ None ∷ []) ≡ None) × (closes ≡ true))
-last_alone true wrong closes full b detail = (λ h. absurd (cc), λ h. absurd (cc))
-last_alone false true closes full b detail = (λ h. absurd (cc), λ h. absurd (cc))
-last_alone false false true full b detail = (λ h. (refl, refl), λ h. refl)
-last_alone false false false true b detail = (λ h. absurd (cc), λ h. absurd (true≢false (sym h.1)))
-last_alone false false false false b detail = (λ h. absurd (cc), λ h. absurd (true≢false (sym h.1)))
+last_alone true wrong closes b detail = (λ h. absurd (cc), λ h. absurd (cc))
+last_alone false true closes b detail = (λ h. absurd (cc), λ h. absurd (cc))
+last_alone false false true b detail = (λ h. (refl, refl), λ h. refl)
+last_alone false false false b detail = (λ h. absurd (cc), λ h. absurd (true≢false (sym h.1)))
 
 closes_if : (b : Board) (id on : ℕ) → closes_walk b id on ≡ true → (id ≡ on) ⊎ DependsOn b on id
 closes_if b id on h = elim (either (id == on) (leads_on b on id) h) [
@@ -49,7 +48,7 @@ if_closes b id on (inr walk) = right (id == on) (leads_on b on id) ((leads_by_wa
 
 pub cycles_refused : AreCyclesRefused
 cycles_refused b id on m =
-    let alone = last_alone (lacks_either b id on) (not (of_task is_open_task (find (has_id id) b.tasks))) (closes_walk b id on) (lacks_link_room b id on) _ _ in (
+    let alone = last_alone (lacks_either b id on) (not (of_task is_open_task (find (has_id id) b.tasks))) (closes_walk b id on) _ _ in (
       λ h. let parts = alone.0 h in (parts.0, closes_if b id on parts.1),
       λ h. alone.1 (h.0, if_closes b id on h.1),
     )

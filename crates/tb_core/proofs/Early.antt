@@ -1,12 +1,8 @@
 -- A task that a board doesn't take is refused whether or not the board is awake.
-use Rattle.std.proofs.Common.{◌≡◌, ℕ, ◌+◌, ◌-◌, List, [], ◌∷◌, Option, Some, None, map, refl, sym, ◌∙◌, ap, subst, MatchOption}
-use Rattle.std.specs.List.{sum_by}
+use Rattle.std.proofs.Common.{◌≡◌, ℕ, Option, Some, None, refl, sym, ◌∙◌, ap, subst, MatchOption}
 use Rattle.std.proofs.lemmas.List.{length-map}
-use Rattle.std.proofs.lemmas.List.Sums.{sum_by-cons}
-use Rattle.tb_task.specs.declared.task.Task.{Task}
 use Rattle.tb_board.specs.declared.board.Board.{Board}
 use Rattle.tb_board.specs.Board.{wake}
-use Rattle.tb_board.specs.LinkRoom.{link_room, links_in, own_links}
 use Rattle.tb_board.specs.Tasks.{woken}
 use Rattle.tb_board.proofs.Goodness.{ids-wake, lacks-same, on-same}
 use Rattle.tb_core.specs.declared.command.BoardCommand.{BoardCommand}
@@ -17,20 +13,10 @@ use Rattle.tb_core.specs.Deciding.{IsRefused, TakesAdded}
 use Rattle.tb_core.specs.Refusals.{least}
 use Rattle.tb_task.specs.declared.incoming.Incoming.{Incoming}
 
-links_awake : (m : ℕ) (ts : List Task) → sum_by own_links (map (woken m) ts) ≡ sum_by own_links ts
-links_awake m [] = refl
-links_awake m (t ∷ ts) =
-    sum_by-cons own_links (woken m t) (map (woken m) ts) ∙ ap (λ n. own_links t + n) (links_awake m ts) ∙ sym (sum_by-cons own_links t ts)
-
--- waking leaves all links
-room_awake : (b : Board) (m : ℕ) → link_room (wake b m) ≡ link_room b
-unfolding link_room links_in
-room_awake b m = ap (λ n. 65536 - n) (links_awake m b.tasks)
-
 refused_awake : (b : Board) (m : ℕ) (i : Incoming) → least (add_refusals (wake b m) i) ≡ least (add_refusals b i)
 refused_awake b m i =
     let same = ids-wake m b.tasks in
-    rw (lacks-same b (wake b m) i.task.depends same, on-same b (wake b m) i.task.id same, length-map b.tasks (woken m), room_awake b m) refl
+    rw (lacks-same b (wake b m) i.task.depends same, on-same b (wake b m) i.task.id same, length-map b.tasks (woken m)) refl
 
 pub takes_awake : (b : Board) (m : ℕ) (c : BoardCommand) → TakesAdded b c → TakesAdded (wake b m) c
 takes_awake b m c takes = λ i is. refused_awake b m i ∙ takes i is

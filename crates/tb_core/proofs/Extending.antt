@@ -29,7 +29,6 @@ use Rattle.tb_core.specs.declared.command.BoardAnswer.{BoardAnswer}
 use Rattle.tb_core.specs.declared.command.Command.TheVariants as Commands
 use Rattle.tb_core.specs.declared.command.BoardCommand.{BoardCommand}
 use Rattle.tb_core.specs.declared.command.BoardCommand.TheVariants.{Add, OnTask, Modify, Depend, Undepend, SetAhead, Retitle, Sweep, Import}
-use Rattle.tb_core.specs.declared.command.BoardCommand.TheVariants as on
 use Rattle.tb_core.specs.declared.command.Import.TheVariants.{Json, Todo}
 use Rattle.tb_core.specs.declared.command.AnswerDetail.{AnswerDetail}
 use Rattle.tb_core.specs.declared.look.Seen.{Seen}
@@ -39,7 +38,6 @@ use Rattle.tb_core.specs.Add.{add_refusals, entered}
 use Rattle.tb_core.specs.Allowed.{allows}
 use Rattle.tb_core.specs.Apply.{answered, applied, board_for, board_taken, decided, if_allowed, judged, outcome, own_for, role_answer, role_given, role_refusals, seen_of, seen_with, take_refusals, taken, taking_role, with_role}
 use Rattle.tb_core.specs.Linking.{depend_refusals, depends_on, linked, undepend_refusals, unlinked}
-use Rattle.tb_core.specs.Edit.{changed_in, unless_changed}
 use Rattle.tb_core.specs.Edits.{modified}
 use Rattle.tb_core.specs.GoodLaws.{AlwaysExtends}
 use Rattle.tb_core.specs.ImportJson.{told_of}
@@ -77,12 +75,6 @@ unless : (b c : Board) (o : Option Refusal) (detail : AnswerDetail) → ExtendsB
 unless b c None detail extends = extends
 unless b c (Some refusal) detail extends = tt
 
-unless_other : (b : Board) (changed : Option (List ℕ)) (r : Result (Board × AnswerDetail) Refusal) → IfOk r (λ after. ExtendsBoard b after.0)
-    → IfOk (unless_changed changed r) (λ after. ExtendsBoard b after.0)
-unless_other b None r extends = extends
-unless_other b (Some name) (Ok after) extends = tt
-unless_other b (Some name) (Err refusal) extends = tt
-
 told_import : (b : Board) (r : Result (Board × ImportCounts) ImportRefusal) → IfOk r (λ after. ExtendsBoard b after.0) → IfOk (told_of r) (λ after. ExtendsBoard b after.0)
 told_import b (Ok after) extends = extends
 told_import b (Err refusal) extends = tt
@@ -91,8 +83,6 @@ extends_judged : (b : Board) (c : BoardCommand) (m : ℕ) → IfOk (judged b c m
 extends_judged b (Add i) m = unless b (with_task b (entered b i m)) (least (add_refusals b i)) _ (board-append b (with_task b (entered b i m)) (entered b i m ∷ []) refl refl)
 extends_judged b (OnTask id a) m = unless b _ (least (action_refusals b id a)) _ (board-change b (has_id id) (acted m a) (acted_task m a))
 extends_judged b (Modify id es) m = unless b _ (least (modify_refusals b id es m)) _ (board-change b (has_id id) (modified m es) (modified_task m es))
-extends_judged b (on.Edit id set was) m =
-    unless_other b (changed_in was (find (has_id id) b.tasks)) _ (unless b _ (least (modify_refusals b id set m)) _ (board-change b (has_id id) (modified m set) (modified_task m set)))
 extends_judged b (Depend id on) m = unless b _ (least (depend_refusals b id on)) _ (board-change b (has_id id) (linked m on) (linked_task m on))
 extends_judged b (Undepend id on) m =
     unless b _ (least (undepend_refusals b id on)) _ (board-change b (has_id id) (unlinked m on) (λ t. record { id = refl; parent = refl; imask = refl }))

@@ -5,7 +5,6 @@ pub mod Decided
 pub mod Depending
 pub mod Early
 pub mod EditSteps
-pub mod Editing
 pub mod Extending
 pub mod GoodImports
 pub mod GoodLinks

@@ -16,7 +16,6 @@ use Rattle.tb_board.specs.declared.world.Person.{Person}
 use Rattle.tb_core.specs.declared.command.Command.TheVariants as Commands
 use Rattle.tb_core.specs.declared.command.BoardCommand.{BoardCommand}
 use Rattle.tb_core.specs.declared.command.BoardCommand.TheVariants.{Add, OnTask, Modify, Depend, Undepend, SetAhead, Retitle, Sweep, Import}
-use Rattle.tb_core.specs.declared.command.BoardCommand.TheVariants as on
 use Rattle.tb_core.specs.declared.command.Import.TheVariants.{Json, Todo}
 use Rattle.tb_core.specs.declared.command.AnswerDetail.{AnswerDetail}
 use Rattle.tb_core.specs.declared.command.AnswerDetail.TheVariants.{Added, Changed, TodoImported, Swept}
@@ -30,12 +29,11 @@ use Rattle.tb_core.specs.declared.action.Action.TheVariants.{Done, Delete, Reope
 use Rattle.tb_core.specs.Action.{acted, action_fault, action_refusals, of_task, takes}
 use Rattle.tb_core.specs.Edits.{modified}
 use Rattle.tb_core.specs.Modify.{is_fixed, is_misplaced, modify_fault, modify_refusals}
-use Rattle.tb_core.specs.Edit.{changed_in, unless_changed}
-use Rattle.tb_core.specs.Linking.{closes_walk, depend_refusals, is_open_task, lacks_either, linked, own_depend_refusals, undepend_refusals, unlinked}
+use Rattle.tb_core.specs.Linking.{closes_walk, depend_refusals, is_open_task, lacks_either, linked, undepend_refusals, unlinked}
 use Rattle.tb_core.specs.ImportTodo.{first_bad, import_todo_refusals, imported, new_tasks}
 use Rattle.tb_core.proofs.GoodImports.{good-new, plain_all}
 use Rattle.tb_core.proofs.GoodLinks.{good-linked, good-unlinked}
-use Rattle.tb_core.specs.Add.{add_fault, add_refusals, entered, entered_id, first_fault, is_full, is_linked, is_misread, lacks_link_room}
+use Rattle.tb_core.specs.Add.{add_fault, add_refusals, entered, entered_id, first_fault, is_full, is_linked, is_misread}
 use Rattle.tb_board.specs.Board.{lacks_depends, is_on, wake, with_task}
 use Rattle.tb_board.specs.Tasks.{has_id}
 use Rattle.tb_core.specs.Allowed.{allows}
@@ -142,10 +140,10 @@ good-add b i m good h =
     let depends = none_least (where_holds NoTask (lacks_depends b i.task.depends)) _ h in
     let taken = none_least (where_holds UuidTaken (i.named && is_on b i.task.id)) _ depends.1 in
     let fault = none_least (bad_task (add_fault i)) _ taken.1 in
-    let full = none_least (where_holds Full (is_full b || lacks_link_room b i)) [] fault.1 in
+    let full = none_least (where_holds Full (is_full b)) [] fault.1 in
     let parent = no_parent i (no_fault (add_fault i) fault.0) in
     good-push b (entered b i m) good
-    (leb-false 10000 (length b.tasks) (or_first (is_full b) (lacks_link_room b i) (none_holds Full (is_full b || lacks_link_room b i) full.0)))
+    (leb-false 10000 (length b.tasks) (none_holds Full (is_full b) full.0))
     (new_id b i.named i.task.id (free_id b) (none_holds UuidTaken (i.named && is_on b i.task.id) taken.0) (fresh b))
     (sound_entered b i m (no_fault (add_fault i) fault.0))
     (none_holds NoTask (lacks_depends b i.task.depends) depends.0)
@@ -209,8 +207,7 @@ good-depend : (b : Board) (id on m : ℕ) → IsGood b → least (depend_refusal
 good-depend b id on m good h =
     let there = none_least (where_holds NoTask (lacks_either b id on)) _ h in
     let standing = none_least (where_holds WrongStatus (not (of_task is_open_task (find (has_id id) b.tasks)))) _ there.1 in
-    let own = none_least (least (own_depend_refusals b id on)) [] standing.1 in
-    let walks = none_least (where_holds Cycle (closes_walk b id on)) _ own.0 in
+    let walks = none_least (where_holds Cycle (closes_walk b id on)) [] standing.1 in
     linked_at b id on m (find (has_id id) b.tasks) refl (not_false _ (none_holds WrongStatus _ standing.0)) (none_holds NoTask _ there.0) (none_holds Cycle _ walks.0) good
 
 unlinked_at : (b : Board) (id on m : ℕ) (o : Option Task) → find (has_id id) b.tasks ≡ o → of_task is_open_task o ≡ true → IsGood b
@@ -241,13 +238,6 @@ kept : (m : ℕ) (w : World) (x : Board) (o : Option Refusal) (b : Board) (detai
 kept m w x (Some r) b detail good found later = good
 kept m w x None b detail good found later =
     good-with_board w x (sweep b m) good found (number-sweep b m ∙ (later refl).number) (sweep_kept b m (later refl).good)
-
--- a name that is changed refuses
-kept_edit : (m : ℕ) (w : World) (x : Board) (changed : Option (List ℕ)) (o : Option Refusal) (b : Board) (detail : AnswerDetail) → IsGoodWorld w
-    → find (has_number x.number) w.boards ≡ Some x → (o ≡ None → Follows x b) → IsGoodWorld (applied w (answered m (unless_changed changed (unless_refused o b detail)))).world
-kept_edit m w x None o b detail good found later = kept m w x o b detail good found later
-kept_edit m w x (Some name) None b detail good found later = good
-kept_edit m w x (Some name) (Some refusal) b detail good found later = good
 
 number_all : (first : Board) (new : List Incoming) (b : Board) (is : List Incoming) → (with_all first new b is).number ≡ b.number
 number_all first new b [] = refl
@@ -281,10 +271,6 @@ kept_outcome w x (OnTask id a) m good found is_good =
 kept_outcome w x (Modify id es) m good found is_good =
     kept m w x (least (modify_refusals (wake x m) id es m)) (record (wake x m) { tasks = change_first (has_id id) (modified m es) (wake x m).tasks }) (Changed id) good found
     (λ none. record { number = refl; good = good-modify (wake x m) id es m (good-wake x m is_good) none })
-kept_outcome w x (on.Edit id set was) m good found is_good =
-    kept_edit m w x (changed_in was (find (has_id id) (wake x m).tasks)) (least (modify_refusals (wake x m) id set m))
-    (record (wake x m) { tasks = change_first (has_id id) (modified m set) (wake x m).tasks }) (Changed id) good found
-    (λ none. record { number = refl; good = good-modify (wake x m) id set m (good-wake x m is_good) none })
 kept_outcome w x (Depend id on) m good found is_good =
     kept m w x (least (depend_refusals (wake x m) id on)) (record (wake x m) { tasks = change_first (has_id id) (linked m on) (wake x m).tasks }) (Changed id) good found
     (λ none. record { number = refl; good = good-depend (wake x m) id on m (good-wake x m is_good) none })

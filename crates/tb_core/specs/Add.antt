@@ -1,5 +1,5 @@
 -- Adding a task to a board.
-use Rattle.std.specs.Prelude.{ℕ, Bool, not, ◌&&◌, ◌||◌, List, [], ◌∷◌, Option, Some, None, is_some, Result, if◌then◌else◌, length, nat_le, nat_lt}
+use Rattle.std.specs.Prelude.{ℕ, Bool, not, ◌&&◌, ◌||◌, List, [], ◌∷◌, Option, Some, None, is_some, Result, if◌then◌else◌, length, nat_le}
 use Rattle.tb_task.specs.declared.task.Task.{Task}
 use Rattle.tb_task.specs.declared.checks.Field.{Field}
 use Rattle.tb_task.specs.declared.checks.Field.TheVariants.{BadPair}
@@ -15,7 +15,6 @@ use Rattle.tb_board.specs.Numbers.{free_id}
 use Rattle.tb_core.specs.Refusals.{where_holds, bad_task, least, unless_refused}
 use Rattle.tb_board.specs.Board.{lacks_depends}
 use Rattle.tb_board.specs.Good.{has_template_form}
-use Rattle.tb_board.specs.LinkRoom.{link_room}
 use Rattle.tb_task.specs.Limits.{most_tasks}
 
 -- it came as an instance or with a mask
@@ -38,10 +37,6 @@ add_fault i = first_fault (fault_of i.task) (is_linked i || is_misread i.task)
 abbrev pub is_full : Board → Bool
 is_full b = nat_le most_tasks (length b.tasks)
 
--- the task has more links than there is room for
-abbrev pub lacks_link_room : Board → Incoming → Bool
-lacks_link_room b i = nat_lt (link_room b) (length i.task.depends)
-
 -- in the order of their numbers
 -- Rule: a given uuid is new to the board. Refused as UuidTaken. Tried by number_used_by_hand.
 abbrev pub add_refusals : Board → Incoming → List (Option Refusal)
@@ -49,7 +44,7 @@ add_refusals b i =
     where_holds NoTask (lacks_depends b i.task.depends)
     ∷ where_holds UuidTaken (i.named && is_on b i.task.id)
     ∷ bad_task (add_fault i)
-    ∷ where_holds Full (is_full b || lacks_link_room b i)
+    ∷ where_holds Full (is_full b)
     ∷ []
 
 -- its own identifier, or that of the least free number

@@ -10,7 +10,7 @@ use Rattle.tb_core.specs.declared.command.Answer.{Answer}
 use Rattle.tb_core.specs.declared.command.Command.{Command}
 use Rattle.tb_core.specs.declared.command.Command.TheVariants as command
 use Rattle.tb_core.specs.declared.command.BoardCommand.{BoardCommand}
-use Rattle.tb_core.specs.declared.command.BoardCommand.TheVariants.{Add, OnTask, Modify, Edit, Depend, Undepend, SetAhead, Retitle, Sweep, Import}
+use Rattle.tb_core.specs.declared.command.BoardCommand.TheVariants.{Add, OnTask, Modify, Depend, Undepend, SetAhead, Retitle, Sweep, Import}
 use Rattle.tb_core.specs.declared.refusal.Refusal.{Refusal}
 use Rattle.tb_core.specs.Apply.{apply}
 use Rattle.tb_core.specs.AtOnce.{apply_at_once}
@@ -32,12 +32,11 @@ abbrev pub is_first_role : Option Role → Bool
 is_first_role None = true
 is_first_role (Some role) = may_change role
 
--- one of the first commands on a board: none says how far it looks ahead, retitles it or tells what was seen
+-- one of the first commands on a board: none says how far it looks ahead or retitles it
 abbrev pub is_first_board_command : BoardCommand → Bool
 is_first_board_command (Add i) = true
 is_first_board_command (OnTask id a) = true
 is_first_board_command (Modify id edits) = true
-is_first_board_command (Edit id set was) = false
 is_first_board_command (Depend id on) = true
 is_first_board_command (Undepend id on) = true
 is_first_board_command (SetAhead ahead) = false

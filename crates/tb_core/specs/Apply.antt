@@ -7,7 +7,7 @@ use Rattle.tb_core.specs.declared.command.BoardAnswer.{BoardAnswer}
 use Rattle.tb_core.specs.declared.command.Command.{Command}
 use Rattle.tb_core.specs.declared.command.Command.TheVariants as command
 use Rattle.tb_core.specs.declared.command.BoardCommand.{BoardCommand}
-use Rattle.tb_core.specs.declared.command.BoardCommand.TheVariants.{Add, OnTask, Modify, Edit, Depend, Undepend, SetAhead, Retitle, Sweep, Import}
+use Rattle.tb_core.specs.declared.command.BoardCommand.TheVariants.{Add, OnTask, Modify, Depend, Undepend, SetAhead, Retitle, Sweep, Import}
 use Rattle.tb_core.specs.declared.command.Import.{Import as ImportedTasks}
 use Rattle.tb_core.specs.declared.command.Import.TheVariants.{Json, Todo}
 use Rattle.tb_core.specs.declared.command.AnswerDetail.{AnswerDetail}
@@ -28,7 +28,6 @@ use Rattle.tb_core.specs.Allowed.{allows}
 use Rattle.tb_core.specs.Linking.{judged_depend, judged_undepend}
 use Rattle.tb_board.specs.Board.{wake}
 use Rattle.tb_board.specs.Changing.{change_board, changed, with_ahead, with_title}
-use Rattle.tb_core.specs.Edit.{judged_edit}
 use Rattle.tb_core.specs.ImportJson.{judged_import_json}
 use Rattle.tb_core.specs.ImportTodo.{judged_import_todo}
 use Rattle.tb_core.specs.Keys.{key_given, own_key}
@@ -142,7 +141,6 @@ abbrev pub judged : Board → BoardCommand → ℕ → Result (Board × AnswerDe
 judged b (Add i) m = judged_add b i m
 judged b (OnTask id a) m = judged_action b id a m
 judged b (Modify id edits) m = judged_modify b id edits m
-judged b (Edit id set was) m = judged_edit b id set was m
 judged b (Depend id on) m = judged_depend b id on m
 judged b (Undepend id on) m = judged_undepend b id on m
 judged b (SetAhead ahead) m = Ok (with_ahead ahead b, Swept)

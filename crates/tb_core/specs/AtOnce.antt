@@ -11,7 +11,7 @@ use Rattle.tb_core.specs.declared.command.BoardAnswer.{BoardAnswer}
 use Rattle.tb_core.specs.declared.command.Command.{Command}
 use Rattle.tb_core.specs.declared.command.Command.TheVariants as command
 use Rattle.tb_core.specs.declared.command.BoardCommand.{BoardCommand}
-use Rattle.tb_core.specs.declared.command.BoardCommand.TheVariants.{Add, OnTask, Modify, Edit, Depend, Undepend, SetAhead, Retitle, Sweep, Import}
+use Rattle.tb_core.specs.declared.command.BoardCommand.TheVariants.{Add, OnTask, Modify, Depend, Undepend, SetAhead, Retitle, Sweep, Import}
 use Rattle.tb_core.specs.declared.command.AnswerDetail.{AnswerDetail}
 use Rattle.tb_core.specs.declared.command.AnswerDetail.TheVariants.{Swept}
 use Rattle.tb_core.specs.declared.look.Seen.{Seen}
@@ -63,12 +63,11 @@ role_at_once w seen (Some caller) (Some b) role m =
     (with_role w (sweep_at_once b.board m) (person_number seen.other) role)
     (OnBoard (answer_at_once b.board m Swept))
 
--- a command on a board; the text has none by which a board looks ahead or gets another title, and none that tells what was seen
+-- a command on a board; the text has none by which a board looks ahead or gets another title
 abbrev pub command_at_once : World → Seen → BoardCommand → ℕ → Outcome
 command_at_once w seen (Add i) m = on_board_at_once w seen (Add i) m
 command_at_once w seen (OnTask id a) m = on_board_at_once w seen (OnTask id a) m
 command_at_once w seen (Modify id edits) m = on_board_at_once w seen (Modify id edits) m
-command_at_once w seen (Edit id set was) m = record { world = w; answer = Err NoBoard }
 command_at_once w seen (Depend id on) m = on_board_at_once w seen (Depend id on) m
 command_at_once w seen (Undepend id on) m = on_board_at_once w seen (Undepend id on) m
 command_at_once w seen (SetAhead ahead) m = record { world = w; answer = Err NoBoard }

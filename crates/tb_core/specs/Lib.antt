@@ -7,8 +7,6 @@ pub mod AtOnce
 pub mod Cycles
 pub mod Deciding
 pub mod Linking
-pub mod Edit
-pub mod EditLaws
 pub mod Edits
 pub mod Effect
 pub mod Giving

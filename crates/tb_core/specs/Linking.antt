@@ -1,5 +1,5 @@
 -- Links between the tasks of a board.
-use Rattle.std.specs.Prelude.{◌≡◌, ℕ, ◌==◌, Bool, true, not, ◌&&◌, ◌||◌, List, [], ◌∷◌, Option, Some, Result, if◌then◌else◌, find, nat_eq}
+use Rattle.std.specs.Prelude.{◌≡◌, ℕ, ◌==◌, Bool, true, not, ◌||◌, List, [], ◌∷◌, Option, Some, Result, if◌then◌else◌, find}
 use Rattle.std.specs.BTreeSet.{replace_key}
 use Rattle.std.specs.List.{list_any}
 use Rattle.std.specs.Ordering.{nat_cmp}
@@ -9,13 +9,12 @@ use Rattle.tb_board.specs.declared.board.Board.{Board}
 use Rattle.tb_board.specs.Board.{is_on}
 use Rattle.tb_board.specs.Tasks.{has_id}
 use Rattle.tb_board.specs.First.{change_first, IsFirst}
-use Rattle.tb_board.specs.LinkRoom.{link_room}
 use Rattle.tb_board.specs.Links.{leads_on}
 use Rattle.tb_board.specs.Statuses.{is_open}
 use Rattle.tb_core.specs.declared.command.AnswerDetail.{AnswerDetail}
 use Rattle.tb_core.specs.declared.command.AnswerDetail.TheVariants.{Changed}
 use Rattle.tb_core.specs.declared.refusal.Refusal.{Refusal}
-use Rattle.tb_core.specs.declared.refusal.Refusal.TheVariants.{NoTask, WrongStatus, NoLink, Cycle, Full}
+use Rattle.tb_core.specs.declared.refusal.Refusal.TheVariants.{NoTask, WrongStatus, NoLink, Cycle}
 use Rattle.tb_core.specs.Action.{of_task}
 use Rattle.tb_core.specs.Refusals.{least, unless_refused, where_holds}
 
@@ -52,27 +51,14 @@ link_refusals b id on last =
     ∷ last
     ∷ []
 
--- the first task of the identifier has a link to the other one
-abbrev pub is_there_on : Board → ℕ → ℕ → Bool
-is_there_on b id on = of_task (depends_on on) (find (has_id id) b.tasks)
-
--- the link isn't there yet, and the board has room for none
--- Rule: a link that is there takes no room. Tried by links_full.
-abbrev pub lacks_link_room : Board → ℕ → ℕ → Bool
-lacks_link_room b id on = not (is_there_on b id on) && nat_eq (link_room b) 0
-
-abbrev pub own_depend_refusals : Board → ℕ → ℕ → List (Option Refusal)
-own_depend_refusals b id on =
-    where_holds Cycle (closes_walk b id on) ∷ where_holds Full (lacks_link_room b id on) ∷ []
-
 abbrev pub depend_refusals : Board → ℕ → ℕ → List (Option Refusal)
-depend_refusals b id on = link_refusals b id on (least (own_depend_refusals b id on))
+depend_refusals b id on = link_refusals b id on (where_holds Cycle (closes_walk b id on))
 
 -- Rule: undepend takes a link of the task. Refused as NoLink. Tried by links_and_notes_removed.
 abbrev pub undepend_refusals : Board → ℕ → ℕ → List (Option Refusal)
 undepend_refusals b id on =
     link_refusals b id on
-    (where_holds NoLink (not (is_there_on b id on)))
+    (where_holds NoLink (not (of_task (depends_on on) (find (has_id id) b.tasks))))
 
 -- the first task stands at the place and is open, and the other one is on the board
 pub record IsPlaceToLink (b : Board) (id on place : ℕ) : Type 0 where

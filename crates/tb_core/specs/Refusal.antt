@@ -1,7 +1,7 @@
 -- The numbers of refusals, and their status codes.
 use Rattle.std.specs.Prelude.{ℕ}
 use Rattle.tb_core.specs.declared.refusal.Refusal.{Refusal}
-use Rattle.tb_core.specs.declared.refusal.Refusal.TheVariants.{UnknownCaller, IdReused, NoBoard, NotAllowed, NoTask, WrongStatus, UuidTaken, BadTask, BadTaskAt, TemplateFixed, NoLink, Cycle, Full, NoPerson, LastOwner, NameTaken, KeyDiffers, Changed}
+use Rattle.tb_core.specs.declared.refusal.Refusal.TheVariants.{UnknownCaller, IdReused, NoBoard, NotAllowed, NoTask, WrongStatus, UuidTaken, BadTask, BadTaskAt, TemplateFixed, NoLink, Cycle, Full, NoPerson, LastOwner, NameTaken, KeyDiffers}
 
 abbrev pub number_of : Refusal → ℕ
 number_of UnknownCaller = 1
@@ -21,7 +21,6 @@ number_of NoPerson = 13
 number_of LastOwner = 14
 number_of NameTaken = 15
 number_of KeyDiffers = 16
-number_of (Changed name) = 17
 
 -- RFC 9110: Unauthorized, Forbidden, Not Found, Conflict, and Unprocessable Content
 abbrev pub status_of : Refusal → ℕ
@@ -42,4 +41,3 @@ status_of NoPerson = 404
 status_of LastOwner = 409
 status_of NameTaken = 409
 status_of KeyDiffers = 409
-status_of (Changed name) = 409

@@ -1,6 +1,6 @@
 ghost use Rattle.std.specs.Prelude.{◌≡◌, ◌<◌, Some, None, length, is_some, IfOk};
 ghost use Rattle.std.specs.List.{list_any};
-ghost use Rattle.tb_core.specs.Add.{add_fault, add_refusals, entered_id, is_full, is_linked, judged_add, is_misread, lacks_link_room};
+ghost use Rattle.tb_core.specs.Add.{add_fault, add_refusals, entered_id, is_full, is_linked, judged_add, is_misread};
 ghost use Rattle.tb_board.specs.Board.{lacks_depends};
 ghost use Rattle.tb_core.specs.Effect.{Fits, GivesEffect};
 ghost use Rattle.tb_core.specs.Refusals.{least};
@@ -11,7 +11,7 @@ use crate::effect::{BoardChange, Effect};
 use crate::judged::CommandFailure;
 use crate::refusal::Refusal;
 use std::alloc::{AllocError, Global};
-use tb_board::{Board, has_template_form, least_number, room_for_links};
+use tb_board::{Board, has_template_form, least_number};
 use tb_task::{Field, Incoming, MOST_TASKS, Moment, Task, TaskId, check};
 use tb_values::Duplicate;
 
@@ -28,7 +28,7 @@ pub fn add_refusal(board: &Board, incoming: &Incoming) -> Option<Refusal>
     if let Some(fault) = fault_in(incoming) {
         return Some(Refusal::BadTask(fault));
     }
-    if has_no_room(board) || lacks_link_room(board, incoming) {
+    if has_no_room(board) {
         return Some(Refusal::Full);
     }
     None
@@ -92,14 +92,6 @@ fn has_no_room(board: &Board) -> bool
     ensures { result ≡ is_full board.now }
 {
     board.tasks.len() >= MOST_TASKS
-}
-
-/// Whether the task has more links than there is room for. The board's are counted only where the task has any.
-fn lacks_link_room(board: &Board, incoming: &Incoming) -> bool
-    ensures { result ≡ lacks_link_room board.now incoming.now }
-{
-    let links = incoming.task.depends.as_slice().len();
-    links > 0 && links > room_for_links(board)
 }
 
 fn id_for(alloc: Global, board: &Board, incoming: &Incoming) -> Result<TaskId, AllocError>

@@ -13,7 +13,6 @@ pub fn allows(role: Role, command: &BoardCommand) -> bool
         BoardCommand::Add { .. }
         | BoardCommand::OnTask { .. }
         | BoardCommand::Modify { .. }
-        | BoardCommand::Edit { .. }
         | BoardCommand::Depend { .. }
         | BoardCommand::Undepend { .. }
         | BoardCommand::Import(_)

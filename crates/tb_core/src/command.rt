@@ -64,15 +64,6 @@ pub enum BoardCommand {
         /// One after the other. A value of another kind than its attribute's, which no edit has that was read, counts as none.
         edits: Items<Edit>,
     },
-    /// Sets and removes attributes of one task that still holds what was seen.
-    Edit {
-        id: TaskId,
-        /// As those of `Modify`.
-        set: Items<Edit>,
-        /// What the task is to hold, in byte order of the names, among which are all that are set: what an edit would set, and nothing
-        /// where it would remove.
-        was: Items<Edit>,
-    },
     /// Makes a task depend on another one.
     Depend {
         id: TaskId,

@@ -13,7 +13,6 @@ use crate::action::act;
 use crate::add::{add, add_refusal};
 use crate::allowed::{allows, is_owner_role};
 use crate::command::{Answer, AnswerDetail, BoardAnswer, BoardCommand, Command, Import};
-use crate::edit::edit;
 use crate::effect::{BoardChange, Effect, Plan};
 use crate::giving::{is_last_owner, role_decision};
 use crate::import_json::import_json;
@@ -312,9 +311,6 @@ fn plan<'c>(
         BoardCommand::OnTask { id, action } => planned(act(board, *id, action, at)),
         BoardCommand::Modify { id, edits } => {
             planned(modify(alloc, board, *id, edits.as_slice(), at))
-        }
-        BoardCommand::Edit { id, set, was } => {
-            planned(edit(alloc, board, *id, set.as_slice(), was.as_slice(), at))
         }
         BoardCommand::Depend { id, on } => planned(depend(alloc, board, *id, *on, at)),
         BoardCommand::Undepend { id, on } => planned(undepend(board, *id, *on, at)),

@@ -133,7 +133,7 @@ fn filled_text(value: &Option<Given>) -> Result<Option<NonEmptyText>, AllocError
     }
 }
 
-pub fn moment_given(value: &Option<Given>) -> Option<Moment>
+fn moment_given(value: &Option<Given>) -> Option<Moment>
     ensures { result ≡ given_moment value.now }
 {
     match value {
@@ -142,7 +142,7 @@ pub fn moment_given(value: &Option<Given>) -> Option<Moment>
     }
 }
 
-pub fn priority_given(value: &Option<Given>) -> Option<Priority>
+fn priority_given(value: &Option<Given>) -> Option<Priority>
     ensures { result ≡ option_and_then priority_in value.now }
 {
     match value {

@@ -11,7 +11,7 @@ pub struct Judged {
 }
 
 /// Why a command failed: it is refused, or memory ran out.
-#[derive(Debug, Drop)]
+#[derive(Clone, Copy, Debug, PartialEq, Eq)]
 pub enum CommandFailure {
     Memory,
     Refused(Refusal),

@@ -2,7 +2,6 @@
 
 ghost use Rattle.tb_core.specs.AheadOne.{AheadOne};
 ghost use Rattle.tb_core.specs.Cycles.{AreCyclesRefused};
-ghost use Rattle.tb_core.specs.EditLaws.{EditIsModify, EditOverwritesWhatWasSeen};
 ghost use Rattle.tb_core.specs.ImportAgain.{ImportTodoAgain};
 ghost use Rattle.tb_core.specs.GoodLaws.{AlwaysExtends, KeepsCaller, KeepsGood, KeepsKeys, OpensGood};
 
@@ -34,17 +33,6 @@ pub fn opens_good()
 /// A link is refused as a cycle exactly where it would close a walk over the tasks.
 pub fn cycles_are_refused()
     ensures { AreCyclesRefused }
-{}
-
-/// Where the task holds all that was seen, an edit makes what a change without that makes; else it is refused, as that one is or as Changed,
-/// and the world stays.
-pub fn edit_is_modify()
-    ensures { EditIsModify }
-{}
-
-/// Where all that an edit names is among what was seen, whatever it makes another thing was held as it was seen.
-pub fn edit_overwrites_what_was_seen()
-    ensures { EditOverwritesWhatWasSeen }
 {}
 
 /// An import that comes again right after itself changes nothing.

@@ -9,7 +9,6 @@ mod add;
 mod allowed;
 mod command;
 mod deciding;
-mod edit;
 mod edits;
 mod effect;
 mod giving;

@@ -1,8 +1,7 @@
-ghost use Rattle.std.specs.Prelude.{◌≡◌, Option, Some, IfOk, IfErr, nat_eq};
+ghost use Rattle.std.specs.Prelude.{◌≡◌, Option, Some, IfOk, IfErr};
 ghost use Rattle.std.specs.BTreeSet.{replace_key};
 ghost use Rattle.std.specs.List.{list_any};
 ghost use Rattle.std.specs.Ordering.{nat_cmp};
-ghost use Rattle.tb_board.specs.LinkRoom.{link_room};
 ghost use Rattle.tb_board.specs.Links.{leads_on};
 ghost use Rattle.tb_core.specs.Linking.{closes_walk, depends_on, IsPlaceToLink, judged_depend, judged_undepend, link_refusals, unlinked};
 ghost use Rattle.tb_core.specs.Effect.{Fits, GivesEffect};
@@ -16,7 +15,7 @@ use crate::effect::{BoardChange, Effect};
 use crate::judged::CommandFailure;
 use crate::refusal::Refusal;
 use std::alloc::{AllocError, Global};
-use tb_board::{Board, is_led, is_open_status, room_for_links};
+use tb_board::{Board, is_led, is_open_status};
 use tb_task::{Moment, Task, TaskId};
 use tb_values::Duplicate;
 
@@ -41,9 +40,6 @@ pub fn depend(
             change: BoardChange::Stay,
             detail: AnswerDetail::Changed { id },
         });
-    }
-    if has_no_link_room(board) {
-        return Err(CommandFailure::Refused(Refusal::Full));
     }
     let task = linked_task(task, on, at)?;
     Ok(Effect {
@@ -117,13 +113,6 @@ fn is_awaited(board: &Board, id: TaskId) -> bool
         .as_slice()
         .iter()
         .any(|task| is_linked_to(task.get(), id))
-}
-
-/// Whether commands can add no link to the board.
-fn has_no_link_room(board: &Board) -> bool
-    ensures { result ≡ nat_eq (link_room board.now) 0 }
-{
-    room_for_links(board) == 0
 }
 
 fn is_linked_to(task: &Task, on: TaskId) -> bool

@@ -2,10 +2,9 @@ ghost use Rattle.std.specs.Prelude.{◌≡◌};
 ghost use Rattle.tb_core.specs.Refusal.{number_of, status_of};
 
 use tb_task::Field;
-use tb_values::NonEmptyText;
 
 /// Why a command is refused, in order of the numbers.
-#[derive(Debug, Drop)]
+#[derive(Clone, Copy, Debug, PartialEq, Eq)]
 pub enum Refusal {
     /// Nobody has the name, or the key is another.
     UnknownCaller,
@@ -30,14 +29,12 @@ pub enum Refusal {
     NameTaken,
     /// The key that is to be changed is another.
     KeyDiffers,
-    /// The task holds something else under this name than was seen.
-    Changed { name: NonEmptyText },
 }
 
 impl Refusal {
     /// Its place in the order: of several refusals that hold the least is answered.
-    pub fn number(&self) -> u8
-        ensures { result ≡ number_of self.now }
+    pub fn number(self) -> u8
+        ensures { result ≡ number_of self }
     {
         match self {
             Refusal::UnknownCaller => 1,
@@ -56,13 +53,12 @@ impl Refusal {
             Refusal::LastOwner => 14,
             Refusal::NameTaken => 15,
             Refusal::KeyDiffers => 16,
-            Refusal::Changed { .. } => 17,
         }
     }
 
     /// The status code of HTTP under which it is answered.
-    pub fn status(&self) -> u16
-        ensures { result ≡ status_of self.now }
+    pub fn status(self) -> u16
+        ensures { result ≡ status_of self }
     {
         match self {
             Refusal::UnknownCaller => 401,
@@ -78,8 +74,7 @@ impl Refusal {
             | Refusal::Full
             | Refusal::LastOwner
             | Refusal::NameTaken
-            | Refusal::KeyDiffers
-            | Refusal::Changed { .. } => 409,
+            | Refusal::KeyDiffers => 409,
         }
     }
 }

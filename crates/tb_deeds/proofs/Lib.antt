@@ -1,4 +1,3 @@
 pub mod Answered
-pub mod Naming
 pub mod Numbers
 pub mod QuietSweeps

@@ -38,7 +38,6 @@ abbrev pub deed_on : Board → BoardCommand → ℕ → ℕ → Option Deed
 deed_on b (on.Add i) m added = Some (done_on b kind.Add (Some (length b.tasks)))
 deed_on b (on.OnTask id a) m added = Some (done_on b (kind_of_action a) (place_named b id))
 deed_on b (on.Modify id edits) m added = Some (done_on b kind.Modify (place_named b id))
-deed_on b (on.Edit id set was) m added = Some (done_on b kind.Modify (place_named b id))
 deed_on b (on.Depend id other) m added = Some (done_on b kind.Depend (place_named b id))
 deed_on b (on.Undepend id other) m added = Some (done_on b kind.Undepend (place_named b id))
 deed_on b (on.SetAhead ahead) m added = Some (done_on b kind.Ahead None)

@@ -71,9 +71,7 @@ fn deed_on(board: &Board, command: &BoardCommand, at: Moment, added: usize) -> O
         BoardCommand::OnTask { id, action } => {
             (DeedKind::of_action(action), board.tasks.place_of(*id))
         }
-        BoardCommand::Modify { id, .. } | BoardCommand::Edit { id, .. } => {
-            (DeedKind::Modify, board.tasks.place_of(*id))
-        }
+        BoardCommand::Modify { id, .. } => (DeedKind::Modify, board.tasks.place_of(*id)),
         BoardCommand::Depend { id, .. } => (DeedKind::Depend, board.tasks.place_of(*id)),
         BoardCommand::Undepend { id, .. } => (DeedKind::Undepend, board.tasks.place_of(*id)),
         BoardCommand::SetAhead { .. } => (DeedKind::Ahead, None),

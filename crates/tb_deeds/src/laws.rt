@@ -1,6 +1,6 @@
 //! Laws over the definitions of deeds.
 
-ghost use Rattle.tb_deeds.specs.Laws.{DeedsNameChanges, KindsHaveNumbers, QuietSweepsChangeNothing, SweepsTellWhatCame};
+ghost use Rattle.tb_deeds.specs.Laws.{KindsHaveNumbers, QuietSweepsChangeNothing, SweepsTellWhatCame};
 
 /// A kind is found by its number.
 pub fn kinds_have_numbers()
@@ -10,11 +10,6 @@ pub fn kinds_have_numbers()
 /// The answer to a sweep tells how many instances came by it.
 pub fn sweeps_tell_what_came()
     ensures { SweepsTellWhatCame }
-{}
-
-/// An accepted command changes no task but the one that its deed names, beside waking, and what is new stands behind all others.
-pub fn deeds_name_changes()
-    ensures { DeedsNameChanges }
 {}
 
 /// A sweep that is no deed changes nothing.

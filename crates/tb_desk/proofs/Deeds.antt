@@ -207,9 +207,6 @@ module _ (w : World) (name : List ℕ) (m : ℕ) where
   deed_in (command.OnBoard n (on.Modify id edits)) =
       other_in (command.OnBoard n (on.Modify id edits)) (found_for w (number_of w name) (Some n))
       (λ v front b added there. stays w v b _ (place_named b id) front there (named_within b id))
-  deed_in (command.OnBoard n (on.Edit id set was)) =
-      other_in (command.OnBoard n (on.Edit id set was)) (found_for w (number_of w name) (Some n))
-      (λ v front b added there. stays w v b _ (place_named b id) front there (named_within b id))
   deed_in (command.OnBoard n (on.Depend id other)) =
       other_in (command.OnBoard n (on.Depend id other)) (found_for w (number_of w name) (Some n))
       (λ v front b added there. stays w v b _ (place_named b id) front there (named_within b id))

@@ -2,7 +2,6 @@ pub mod Admitted
 pub mod Commits
 pub mod Deeds
 pub mod Entries
-pub mod Exports
 pub mod Histories
 pub mod Keys
 pub mod Lists

@@ -1,5 +1,5 @@
 -- What a view shows.
-use Rattle.std.specs.Prelude.{ℕ, ◌-◌, List, Option, Some, None, Result, Ok, Err, drop, find, if◌then◌else◌, map}
+use Rattle.std.specs.Prelude.{ℕ, List, Option, Some, None, Result, Ok, Err, find, if◌then◌else◌, map}
 use Rattle.tb_task.specs.declared.task.Task.{Task}
 use Rattle.tb_json.specs.ListText.{list_text}
 use Rattle.tb_json.specs.Writing.{shown_text}
@@ -21,7 +21,7 @@ use Rattle.tb_calls.specs.declared.reply.Reply.{Reply}
 use Rattle.tb_calls.specs.declared.role_bodies.PersonRole.{PersonRole}
 use Rattle.tb_calls.specs.RoleBodies.{me_text, people_text}
 use Rattle.tb_calls.specs.declared.view.View.{View}
-use Rattle.tb_calls.specs.declared.view.View.TheVariants.{Export, ExportFrom, History, HistoryFrom, HistoryOf, Listing, Me, One, People, Todo}
+use Rattle.tb_calls.specs.declared.view.View.TheVariants.{Export, History, HistoryFrom, HistoryOf, Listing, Me, One, People, Todo}
 use Rattle.tb_calls.specs.Call.{State, unknown_caller}
 use Rattle.tb_calls.specs.History.{history_seen}
 use Rattle.tb_calls.specs.Roles.{boards_of, people_for}
@@ -30,11 +30,6 @@ use Rattle.tb_calls.specs.Reply.{reply_of}
 -- the JSON of all tasks
 abbrev pub export_text : Board → ℕ → List ℕ
 export_text b m = list_text (map shown_text (shown b m))
-
--- the JSON of the tasks from a place on, counted from 1, with the masks that all make
--- Rule: an export from a place on shows the masks of the whole board. Tried by export_from.
-abbrev pub export_from : Board → ℕ → ℕ → List ℕ
-export_from b from m = list_text (map shown_text (drop (from - 1) (shown b m)))
 
 -- the JSON of one task
 abbrev pub one_text : Board → Option Task → ℕ → Result (List ℕ) Refusal
@@ -70,7 +65,6 @@ people_shown n (Some people) = Ok (people_text n people)
 abbrev pub view_of : State → List ℕ → View → ℕ → Result (List ℕ) Refusal
 view_of s name (Listing n) m = on_board s.world name n (λ b. Ok (listing b m))
 view_of s name (Export n) m = on_board s.world name n (λ b. Ok (export_text b m))
-view_of s name (ExportFrom n from) m = on_board s.world name n (λ b. Ok (export_from b from m))
 view_of s name (Todo n) m = on_board s.world name n (λ b. Ok (file_text (shown b m)))
 view_of s name (One n id) m =
     on_board s.world name n (λ b. one_text b (find (has_id id) b.tasks) m)

@@ -1,9 +1,8 @@
 //! How a view is answered, over any keeper.
-ghost use Rattle.std.specs.Prelude.{◌≡◌, ◌-◌, Err, IfOk, IsErrOf, IsSome, Ok, Some, drop, find, map, option_map, true};
+ghost use Rattle.std.specs.Prelude.{◌≡◌, Err, IfOk, IsErrOf, IsSome, Ok, Some, find, option_map, true};
 ghost use Rattle.tb_board.specs.Tasks.{has_id};
 ghost use Rattle.tb_board.specs.World.{key_of, number_of};
 ghost use Rattle.tb_core.specs.Apply.{board_for};
-ghost use Rattle.tb_json.specs.ListText.{list_text};
 ghost use Rattle.tb_json.specs.Writing.{shown_text};
 ghost use Rattle.tb_report.specs.Lists.{listing as listing_of};
 ghost use Rattle.tb_report.specs.Showing.{shown as shown_tasks, shown_task as shown_task_of};
@@ -11,7 +10,7 @@ ghost use Rattle.tb_todotxt.specs.FileTexts.{file_text};
 ghost use Rattle.tb_calls.specs.declared.fault.KeepFault.TheVariants.{Store};
 ghost use Rattle.tb_calls.specs.Call.{State};
 ghost use Rattle.tb_calls.specs.Keep.{IsStill, is_store};
-ghost use Rattle.tb_desk.specs.Viewing.{export_from, export_text, one_text, people_shown, seen_on, shown_in, view_of, view_reply};
+ghost use Rattle.tb_desk.specs.Viewing.{export_text, one_text, people_shown, seen_on, shown_in, view_of, view_reply};
 
 use crate::desk::Desk;
 use crate::looking_back::{show_history, show_history_of};
@@ -24,7 +23,7 @@ use tb_core::{BoardCommand, Command, Refusal, SeenBoard};
 use tb_history::Which;
 use tb_json::{write_task, write_tasks};
 use tb_report::{listing, shown, shown_task};
-use tb_task::{Moment, Shown, Task, TaskId};
+use tb_task::{Moment, Task, TaskId};
 use tb_todotxt::write_file;
 use tb_values::{Items, Shared, Text};
 
@@ -80,10 +79,6 @@ fn look_at<K: Keep>(
         View::Export(board) => {
             let seen = see(keep, alloc, name, *board)?;
             Ok(show_export(alloc, &seen, at)?)
-        }
-        View::ExportFrom(board, from) => {
-            let seen = see(keep, alloc, name, *board)?;
-            Ok(show_export_from(alloc, &seen, *from, at)?)
         }
         View::Todo(board) => {
             let seen = see(keep, alloc, name, *board)?;
@@ -173,32 +168,6 @@ fn show_export(
     };
     let tasks = shown(alloc, seen.board.get(), at)?;
     Ok(Ok(write_tasks(alloc, tasks.as_slice())?))
-}
-
-/// The tasks of a board from a place on as JSON, counted from 1. Their masks are those of the whole board.
-fn show_export_from(
-    alloc: Global,
-    seen: &Option<SeenBoard>,
-    from: u32,
-    at: Moment,
-) -> Result<Result<Text, Refusal>, AllocError>
-    ensures { IfOk result
-        (λ shown. shown ≡ seen_on seen.now (λ b. Ok (export_from b from at))) }
-{
-    let Some(seen) = seen else {
-        return Ok(Err(Refusal::NoBoard));
-    };
-    let tasks = shown(alloc, seen.board.get(), at)?;
-    Ok(Ok(write_tasks_from(alloc, tasks.as_slice(), from)?))
-}
-
-#[tactic(auto, using(crate::proofs::Exports::drop_capped))]
-fn write_tasks_from(alloc: Global, tasks: &[Shown], from: u32) -> Result<Text, AllocError>
-    ensures { IfOk result
-        (λ text. text ≡ list_text (map shown_text (drop (from - 1) tasks.now))) }
-{
-    let before = (from as usize).saturating_sub(1).min(tasks.len());
-    write_tasks(alloc, &tasks[before..])
 }
 
 /// A line for each task of a board that has one.

@@ -1,5 +1,5 @@
 -- An import of the task format right after itself finds each of its tasks.
-use Rattle.std.proofs.Common.{◌≡◌, ℕ, ◌-◌, ◌||◌, nat_lt, not, Bool, true, false, List, [], ◌∷◌, ◌++◌, Option, Some, None, Result, Ok, Err, length, find, refl, sym, ◌∙◌, ap, arith, subst, inl, inr, true≢false}
+use Rattle.std.proofs.Common.{◌≡◌, ℕ, ◌-◌, ◌||◌, not, Bool, true, false, List, [], ◌∷◌, ◌++◌, Option, Some, None, Result, Ok, Err, length, find, refl, sym, ◌∙◌, ap, arith, subst, inl, inr, true≢false}
 use Rattle.std.specs.List.{list_any}
 use Rattle.std.proofs.lemmas.Bool.{cases_Bool, eq-eqb, le-ltb}
 use Rattle.std.proofs.lemmas.List.Folds.{list_any-append}
@@ -12,7 +12,6 @@ use Rattle.tb_board.specs.Board.{is_on, wake}
 use Rattle.tb_board.specs.Tasks.{has_id}
 use Rattle.tb_board.specs.Changing.{change_board}
 use Rattle.tb_board.specs.Good.{IsGood}
-use Rattle.tb_board.specs.LinkRoom.{link_room}
 use Rattle.tb_board.specs.Links.{links}
 use Rattle.tb_board.specs.World.{find_board, has_number, may_change, number_of, role_of}
 use Rattle.tb_board.proofs.Goodness.{ids-wake, on-same}
@@ -26,7 +25,7 @@ use Rattle.tb_import.proofs.Known.{AreKnown}
 use Rattle.tb_import.specs.Import.{board_after, counts_after, with_masks}
 use Rattle.tb_import.specs.News.{new_tasks}
 use Rattle.tb_import.specs.Refusal.{bad_task, import_refusals, is_cyclic, is_too_full, least, unless_refused}
-use Rattle.tb_import.proofs.Again.{counts_again, known_after, none_past, same_after}
+use Rattle.tb_import.proofs.Again.{counts_again, known_after, same_after}
 use Rattle.tb_import.proofs.Templates.{shape}
 use Rattle.tb_core.specs.declared.command.Answer.{Answer}
 use Rattle.tb_core.specs.declared.command.Answer.TheVariants.{OnBoard, OfPerson, NewBoard}
@@ -91,17 +90,12 @@ taken None v counts m y a h =
       more_left = ap (λ (c : Board). more c m) (sym board) ∙ ap (λ (c : BoardAnswer). c.more) answer;
     }
 
-or_none : (p q : Bool) → p ≡ false → q ≡ false → (p || q) ≡ false
-or_none true q h g = absurd (true≢false h)
-or_none false q h g = g
-
 judged_again : (y : Board) (is : List Incoming) → bad_task 0 is ≡ None → AreKnown y is → IsGood y
     → judged_import_json y is ≡ Ok (y, Imported (known_counts is))
 judged_again y is fine known good =
     let same = same_after y is known in
     let acyclic : is_cyclic (board_after y is) ≡ false = ap is_cyclic same ∙ ap not ((is_acyclic_decides (links y)).1 good.acyclic) in
-    let room : is_too_full y (board_after y is) ≡ false =
-        ap (is_too_full y) same ∙ or_none (nat_lt 10000 (length y.tasks)) _ (le-ltb 10000 (length y.tasks) good.few) (none_past (link_room y) y) in
+    let room : is_too_full (board_after y is) ≡ false = ap is_too_full same ∙ le-ltb 10000 (length y.tasks) good.few in
     let none : least (import_refusals y is) ≡ None = rw (fine, acyclic, room) refl in
     ap (λ o. told_of (unless_refused o (board_after y is) (counts_after y is))) none
     ∙ ap (λ d. Ok (d, Imported (counts_after y is))) same

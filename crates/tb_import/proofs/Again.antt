@@ -1,15 +1,14 @@
 -- An import that comes again, and walks that it would close.
-use Rattle.std.proofs.Common.{◌≡◌, ℕ, ◌-◌, ◌||◌, ◌≤◌, drop, nat_lt, not, Bool, true, false, true≢false, List, [], ◌∷◌, ◌++◌, Option, Some, None, Result, Ok, Err, length, length-append, refl, sym, ◌∙◌, ap, arith, subst, inl, inr}
+use Rattle.std.proofs.Common.{◌≡◌, ℕ, ◌-◌, ◌||◌, not, Bool, true, false, true≢false, List, [], ◌∷◌, ◌++◌, Option, Some, None, Result, Ok, Err, length, refl, sym, ◌∙◌, ap, arith, subst, inl, inr}
 use Rattle.std.specs.List.{AllByRecursion, list_any}
-use Rattle.std.proofs.lemmas.Bool.{cases_Bool, eq-eqb, le-ltb}
-use Rattle.std.proofs.lemmas.List.{append-nil, drop_all}
+use Rattle.std.proofs.lemmas.Bool.{cases_Bool, eq-eqb}
+use Rattle.std.proofs.lemmas.List.{append-nil}
 use Rattle.std.proofs.lemmas.List.Folds.{list_any-append}
 use Rattle.tb_graph.specs.Leads.{is_acyclic}
 use Rattle.tb_graph.proofs.Leading.{is_acyclic_decides}
 use Rattle.tb_task.specs.declared.incoming.Incoming.{Incoming}
 use Rattle.tb_board.specs.declared.board.Board.{Board}
 use Rattle.tb_board.specs.Board.{is_on}
-use Rattle.tb_board.specs.LinkRoom.{link_room, links_in}
 use Rattle.tb_board.specs.Links.{links}
 use Rattle.tb_board.proofs.Walking.{acyclic_by_walks}
 use Rattle.tb_import.specs.declared.imported.ImportCounts.{ImportCounts}
@@ -19,9 +18,9 @@ use Rattle.tb_import.specs.Again.{AreClosedWalksFound, ImportAgainChangesNothing
 use Rattle.tb_import.proofs.Known.{AreKnown}
 use Rattle.tb_import.specs.Import.{board_after, counts_after, counts_of, with_masks, with_new_tasks}
 use Rattle.tb_import.specs.News.{found_new, has_own_id, is_there, new_tasks}
-use Rattle.tb_import.specs.Refusal.{bad_task, has_links_past, import_refusals, is_cyclic, is_too_full, judged_import, least, unless_refused, where_holds}
+use Rattle.tb_import.specs.Refusal.{bad_task, import_refusals, is_cyclic, is_too_full, judged_import, least, unless_refused, where_holds}
 use Rattle.tb_import.proofs.Moving.{or_left, or_right}
-use Rattle.tb_import.proofs.Templates.{entered_tasks, shape, there_after}
+use Rattle.tb_import.proofs.Templates.{shape, there_after}
 
 not_false : (p : Bool) → not p ≡ false → p ≡ true
 not_false true h = refl
@@ -103,30 +102,6 @@ unfolding board_in
 accepted None b c counts told h = (refl, ap (λ r. board_in r b) h)
 accepted (Some r) b c counts told h = absurd (cc)
 
--- new tasks go last alone
-pub grows_after : (b : Board) (is : List Incoming) → length b.tasks ≤ length (board_after b is).tasks
-grows_after b is =
-    let new = new_tasks b is in
-    let start = with_masks b new in
-    let tasks = ap (λ (c : Board). length c.tasks) (shape b new start new) in
-    omega (arith, tasks, length-append b.tasks (entered_tasks b new start.gone new))
-
-no_links : (room : ℕ) → nat_lt room (links_in []) ≡ false
-unfolding links_in
-no_links room = le-ltb room 0 (omega arith)
-
--- where no task is new no link is
-pub none_past : (room : ℕ) (b : Board) → has_links_past (length b.tasks) room b ≡ false
-none_past room b = ap (λ ts. nat_lt room (links_in ts)) (drop_all (length b.tasks) b.tasks (omega arith)) ∙ no_links room
-
--- a board that has room for an import has room for the same again
-full_again : (x y : Option ImportRefusal) (p q r : Bool) → r ≡ false → least (x ∷ y ∷ where_holds Full (p || q) ∷ []) ≡ None → least (x ∷ y ∷ where_holds Full (p || r) ∷ []) ≡ None
-full_again (Some f) y p q r none h = absurd (cc)
-full_again None (Some f) p q r none h = absurd (cc)
-full_again None None true q r none h = absurd (cc)
-full_again None None false q false none h = refl
-full_again None None false q true none h = absurd (true≢false none)
-
 pub import_again : ImportAgainChangesNothing
 import_again b is c told h =
     let first = accepted (least (import_refusals b is)) (board_after b is) c (counts_after b is) told h in
@@ -134,19 +109,8 @@ import_again b is c told h =
     let known = known_after b is in
     let same = same_after later is known in
     let none : least (import_refusals later is) ≡ None =
-    ap (λ d. least (bad_task 0 is ∷ where_holds Cycle (is_cyclic d) ∷ where_holds Full (is_too_full later d) ∷ [])) same
-    ∙ full_again (bad_task 0 is) (where_holds Cycle (is_cyclic later)) (nat_lt 10000 (length later.tasks)) (has_links_past (length b.tasks) (link_room b) later)
-    (has_links_past (length later.tasks) (link_room later) later) (none_past (link_room later) later) first.0 in
+    ap (λ d. least (bad_task 0 is ∷ where_holds Cycle (is_cyclic d) ∷ where_holds Full (is_too_full d) ∷ [])) same ∙ first.0 in
     let again : judged_import later is ≡ Ok (later, record { known = length is; new = 0; dropped = 0; orphans = 0; unlinked = 0 }) =
     ap (λ o. unless_refused o (board_after later is) (counts_after later is)) none
     ∙ ap (λ d. unless_refused None d (counts_after later is)) same ∙ ap (λ n. unless_refused None later n) (counts_again later is known) in
     rw (sym first.1) again
-
--- an import for which there is no room
-pub full_is : (b made : Board) (is : List Incoming) (number room : ℕ) (q : Bool) → bad_task 0 is ≡ None → made ≡ board_after b is → is_cyclic made ≡ false → number ≡ length b.tasks → room ≡ link_room b
-    → q ≡ (nat_lt 10000 (length made.tasks) || has_links_past number room made) → q ≡ true → judged_import b is ≡ Err Full
-full_is b made is number room q fine after acyclic size free found so =
-    let full : is_too_full b made ≡ true = sym (rw (size, free) at found) ∙ so in
-    let acyclic' : is_cyclic (board_after b is) ≡ false = rw after at acyclic in
-    let full' : is_too_full b (board_after b is) ≡ true = rw after at full in
-    rw (fine, acyclic', full') refl

@@ -28,7 +28,7 @@ use Rattle.tb_import.specs.Good.{ImportKeepsGood}
 use Rattle.tb_import.specs.Import.{board_after, counts_after, with_masks}
 use Rattle.tb_import.specs.News.{has_own_id, is_there, new_tasks}
 use Rattle.tb_import.specs.Refusal.{bad_task, bad_task_or, import_fault, import_refusals, is_cyclic, is_too_full, least, unless_refused, where_holds}
-use Rattle.tb_import.proofs.Moving.{apart_from, or_left, or_parts, or_right, run_range}
+use Rattle.tb_import.proofs.Moving.{apart_from, or_left, or_right, run_range}
 use Rattle.tb_import.proofs.Numbering.{gone_places-append, masks_none, masks_range, on_own, own_ids, runs_all}
 use Rattle.tb_import.proofs.Ordering.{left_sorted}
 use Rattle.tb_import.proofs.Sound.{sound_entered}
@@ -166,11 +166,10 @@ good_accepted b is good h =
     let later = board_after b is in
     let bad = none_least (bad_task 0 is) _ h in
     let cyclic = none_least (where_holds Cycle (is_cyclic later)) _ bad.1 in
-    let full = none_least (where_holds Full (is_too_full b later)) [] cyclic.1 in
-    let few = or_parts (nat_lt 10000 (length later.tasks)) _ (none_holds Full (is_too_full b later) full.0) in
+    let full = none_least (where_holds Full (is_too_full later)) [] cyclic.1 in
     good_after b later (new_tasks b is) good (found_all IsRead b [] is tt (all_read 0 is bad.0))
     (found_distinct b [] is (subst (IsDistinct nat_eq) (sym (append-nil (ids b.tasks))) good.distinct)) refl
-    (not_false (is_acyclic (links later)) (none_holds Cycle (is_cyclic later) cyclic.0)) few.0
+    (not_false (is_acyclic (links later)) (none_holds Cycle (is_cyclic later) cyclic.0)) (none_holds Full (is_too_full later) full.0)
 
 by_refusal : (b : Board) (is : List Incoming) (o : Option ImportRefusal) → least (import_refusals b is) ≡ o → IsGood b
     → IfOk (unless_refused o (board_after b is) (counts_after b is)) (λ after. IsGood after.0)

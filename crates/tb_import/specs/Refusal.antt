@@ -1,5 +1,5 @@
 -- Why an import is refused, and what its steps give.
-use Rattle.std.specs.Prelude.{◌≡◌, ℕ, ◌+◌, Bool, not, ◌||◌, List, [], ◌∷◌, Option, Some, None, is_some, unwrap_or, Result, Ok, Err, if◌then◌else◌, drop, length, nat_lt}
+use Rattle.std.specs.Prelude.{◌≡◌, ℕ, ◌+◌, Bool, not, ◌||◌, List, [], ◌∷◌, Option, Some, None, is_some, unwrap_or, Result, Ok, Err, if◌then◌else◌, length, nat_lt}
 use Rattle.tb_graph.specs.Leads.{is_acyclic}
 use Rattle.tb_task.specs.declared.checks.Field.{Field}
 use Rattle.tb_task.specs.declared.checks.Field.TheVariants.{BadPair}
@@ -7,7 +7,6 @@ use Rattle.tb_task.specs.declared.incoming.Incoming.{Incoming}
 use Rattle.tb_task.specs.Checks.{fault_of, is_recurring}
 use Rattle.tb_board.specs.declared.board.Board.{Board}
 use Rattle.tb_board.specs.Good.{has_template_form}
-use Rattle.tb_board.specs.LinkRoom.{link_room, links_in}
 use Rattle.tb_board.specs.Links.{links}
 use Rattle.tb_import.specs.declared.imported.Imported.{Imported}
 use Rattle.tb_import.specs.declared.imported.ImportCounts.{ImportCounts}
@@ -52,14 +51,8 @@ where_holds r holds = if holds then Some r else None
 abbrev pub is_cyclic : Board → Bool
 is_cyclic b = not (is_acyclic (links b))
 
--- the tasks that a board has behind so many first ones have more links than there is room for
-abbrev pub has_links_past : ℕ → ℕ → Board → Bool
-has_links_past number room b = nat_lt room (links_in (drop number b.tasks))
-
--- a board has more tasks than a board can have, or its new tasks have more links than the board before them has room for
-abbrev pub is_too_full : Board → Board → Bool
-is_too_full first later = nat_lt most_tasks (length later.tasks)
-    || has_links_past (length first.tasks) (link_room first) later
+abbrev pub is_too_full : Board → Bool
+is_too_full b = nat_lt most_tasks (length b.tasks)
 
 abbrev pub least : List (Option ImportRefusal) → Option ImportRefusal
 least [] = None
@@ -70,7 +63,7 @@ least (Some r ∷ rs) = Some r
 -- Rule: one bad task refuses the whole import. Refused as BadTask. Tried by import_bad_task.
 abbrev pub import_refusals : Board → List Incoming → List (Option ImportRefusal)
 import_refusals b is = bad_task 0 is ∷ where_holds Cycle (is_cyclic (board_after b is))
-    ∷ where_holds Full (is_too_full b (board_after b is)) ∷ []
+    ∷ where_holds Full (is_too_full (board_after b is)) ∷ []
 
 abbrev pub unless_refused : Option ImportRefusal → Board → ImportCounts
     → Result (Board × ImportCounts) ImportRefusal

@@ -1,11 +1,10 @@
-ghost use Rattle.std.specs.Prelude.{◌≡◌, ◌+◌, ◌≤◌, ◌||◌, not, ℕ, IfOk, length, nat_lt, sum_by, count_by};
+ghost use Rattle.std.specs.Prelude.{◌≡◌, ◌+◌, not, ℕ, IfOk, sum_by, count_by};
 ghost use Rattle.tb_board.specs.Changing.{Follows};
 ghost use Rattle.tb_import.specs.Import.{board_after, counts_after, counts_of, with_new_tasks};
 ghost use Rattle.tb_import.specs.Known.{IsKnown};
 ghost use Rattle.tb_import.specs.News.{is_there};
-ghost use Rattle.tb_import.specs.Refusal.{Gives, has_links_past, is_cyclic, judged_import};
+ghost use Rattle.tb_import.specs.Refusal.{Gives, is_cyclic, is_too_full, judged_import};
 ghost use Rattle.tb_import.specs.Sets.{has};
-ghost use Rattle.tb_task.specs.Limits.{most_links, most_tasks};
 ghost use Rattle.tb_task.specs.declared.incoming.Incoming.{Incoming};
 
 use crate::entering::{Entering, Known, enter_all};
@@ -18,7 +17,7 @@ use crate::parents::parents_of;
 use crate::places::Places;
 use crate::refusal::{ImportFailure, ImportRefusal};
 use std::alloc::{AllocError, Global};
-use tb_board::{Board, Draft, has_more_links, is_acyclic_board, room_for_links};
+use tb_board::{Board, Draft, is_acyclic_board};
 use tb_task::{Incoming, MOST_TASKS, TaskId};
 
 /// Puts the new tasks of a list on a board that is awake, in time that grows little faster than the board and the list but for
@@ -34,13 +33,11 @@ pub fn import_tasks(
     if let Some(refusal) = first_bad_task(list) {
         return Err(ImportFailure::Refused(refusal));
     }
-    let number = draft.board.tasks.len();
-    let room = room_for_links(&draft.board);
     let imported = with_new(alloc, draft, list)?;
     if is_cyclic(alloc, &imported.draft.board)? {
         return Err(ImportFailure::Refused(ImportRefusal::Cycle));
     }
-    if is_too_full(&imported.draft.board, number, room) {
+    if is_too_full(&imported.draft.board) {
         return Err(ImportFailure::Refused(ImportRefusal::Full));
     }
     Ok(imported)
@@ -53,14 +50,10 @@ fn is_cyclic(alloc: Global, board: &Board) -> Result<bool, AllocError>
     Ok(!acyclic)
 }
 
-/// Whether the board has more tasks than a board can have, or those behind so many first ones have more links than there is room for.
-fn is_too_full(board: &Board, number: usize, room: usize) -> bool
-    requires number { number ≤ length board.now.tasks }
-    requires room { room ≤ most_links }
-    ensures { result ≡ (nat_lt most_tasks (length board.now.tasks)
-        || has_links_past number room board.now) }
+fn is_too_full(board: &Board) -> bool
+    ensures { result ≡ is_too_full board.now }
 {
-    board.tasks.len() > MOST_TASKS || has_more_links(&board.tasks.as_slice()[number..], room)
+    board.tasks.len() > MOST_TASKS
 }
 
 /// The board with the new tasks, whatever their links and however many they are.

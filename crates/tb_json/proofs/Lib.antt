@@ -1,6 +1,5 @@
 pub mod Again
 pub mod Bytes
-pub mod EditObjects
 pub mod ExtraSteps
 pub mod ListSteps
 pub mod Lookups

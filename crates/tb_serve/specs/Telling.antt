@@ -39,7 +39,6 @@ abbrev pub view_type : View → ℕ → ContentType
 view_type (view.Listing board) number = if number == 0 then PlainText else Json
 view_type (view.Todo board) number = if number == 0 then PlainText else Json
 view_type (view.Export board) number = Json
-view_type (view.ExportFrom board from) number = Json
 view_type (view.One board id) number = Json
 view_type (view.People board) number = Json
 view_type (view.History board) number = Json

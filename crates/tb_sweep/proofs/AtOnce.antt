@@ -9,10 +9,9 @@ use Rattle.tb_recur.specs.Instances.{plan_of}
 use Rattle.tb_recur.proofs.AtOnce.{need_same}
 use Rattle.tb_board.specs.declared.board.Board.{Board}
 use Rattle.tb_board.specs.Board.{wake}
-use Rattle.tb_board.specs.LinkRoom.{link_room}
 use Rattle.tb_board.specs.Templates.{count}
 use Rattle.tb_sweep.specs.AtOnce.{all_at_once, batch_at_once, grown_at_once, lacks_at_once, more_at_once, need_of_at_once, planned_at_once, sweep_at_once, OneAheadSweepsAtOnce}
-use Rattle.tb_sweep.specs.Sweeping.{batch, board_weight, grown, grown_all, lacks, more, most_swept, need_of, planned_need, room_by_links, room_by_weight, sweep, with_instances}
+use Rattle.tb_sweep.specs.Sweeping.{batch, grown, grown_all, lacks, more, need_of, planned_need, sweep, with_instances}
 use Rattle.tb_sweep.proofs.Adding.{ahead-grown, ahead-sweep}
 
 planned_same : (p : Option Plan) (m : ℕ) → planned_need p 1 m ≡ planned_at_once p m
@@ -22,22 +21,22 @@ planned_same (Some p) m = need_same p m
 need_of_same : (b : Board) (m : ℕ) (t : Task) → b.ahead ≡ 1 → need_of t b.ahead m ≡ need_of_at_once t m
 need_of_same b m t one = ap (λ ahead. need_of t ahead m) one ∙ planned_same (plan_of t) m
 
-batch_same : (m most : ℕ) (b : Board) (t : Task) → b.ahead ≡ 1 → batch m most b t ≡ batch_at_once m most b t
-batch_same m most b t one = ap (λ n. min (min (min 64 (10000 - length b.tasks)) (n - count b t.id)) (min (room_by_links (link_room b) t) (room_by_weight (most - board_weight b) t))) (need_of_same b m t one)
+batch_same : (m : ℕ) (b : Board) (t : Task) → b.ahead ≡ 1 → batch m b t ≡ batch_at_once m b t
+batch_same m b t one = ap (λ n. min (min 64 (10000 - length b.tasks)) (n - count b t.id)) (need_of_same b m t one)
 
-grown_same : (m most : ℕ) (b : Board) (t : Task) → b.ahead ≡ 1 → grown m most b t ≡ grown_at_once m most b t
-grown_same m most b t one =
+grown_same : (m : ℕ) (b : Board) (t : Task) → b.ahead ≡ 1 → grown m b t ≡ grown_at_once m b t
+grown_same m b t one =
     elim (cases_Bool (is_recurring t.status)) [
-      | inl recurring ↦ rw recurring (ap (λ n. with_instances m t (count b t.id) n b) (batch_same m most b t one))
+      | inl recurring ↦ rw recurring (ap (λ n. with_instances m t (count b t.id) n b) (batch_same m b t one))
       | inr other ↦ rw other refl
     ]
 
-all_same : (m most : ℕ) (b : Board) (ts : List Task) → b.ahead ≡ 1 → grown_all m most b ts ≡ all_at_once m most b ts
-all_same m most b [] one = refl
-all_same m most b (t ∷ ts) one = all_same m most (grown m most b t) ts (ahead-grown m most b t ∙ one) ∙ ap (λ (c : Board). all_at_once m most c ts) (grown_same m most b t one)
+all_same : (m : ℕ) (b : Board) (ts : List Task) → b.ahead ≡ 1 → grown_all m b ts ≡ all_at_once m b ts
+all_same m b [] one = refl
+all_same m b (t ∷ ts) one = all_same m (grown m b t) ts (ahead-grown m b t ∙ one) ∙ ap (λ (c : Board). all_at_once m c ts) (grown_same m b t one)
 
 pub sweep_same : (b : Board) (m : ℕ) → b.ahead ≡ 1 → sweep b m ≡ sweep_at_once b m
-sweep_same b m one = all_same m (most_swept (wake b m)) (wake b m) (wake b m).tasks one
+sweep_same b m one = all_same m (wake b m) (wake b m).tasks one
 
 lacks_same : (b : Board) (m : ℕ) (t : Task) → b.ahead ≡ 1 → lacks b m t ≡ lacks_at_once b m t
 lacks_same b m t one = ap (λ n. is_recurring t.status && nat_lt (count b t.id) n) (need_of_same b m t one)

@@ -10,7 +10,7 @@ use Rattle.tb_board.specs.Extends.{ExtendsBoard}
 use Rattle.tb_board.specs.Numbers.{free_id}
 use Rattle.tb_board.specs.Templates.{count}
 use Rattle.tb_board.proofs.Extending.{board-append, board-refl, board-trans, board-wake}
-use Rattle.tb_sweep.specs.Sweeping.{batch, grown, grown_all, most_swept, sweep, with_instances}
+use Rattle.tb_sweep.specs.Sweeping.{batch, grown, grown_all, sweep, with_instances}
 
 extends-instances : (m : ℕ) (t : Task) (k n : ℕ) (b : Board) → ExtendsBoard b (with_instances m t k n b)
 extends-instances m t k zero b = board-refl b
@@ -19,16 +19,16 @@ extends-instances m t k (suc n) b =
     let one = with_task b made in
     board-trans b one (with_instances m t (k + 1) n one) (board-append b one (made ∷ []) refl refl) (extends-instances m t (k + 1) n one)
 
-extends-grown : (m most : ℕ) (b : Board) (t : Task) → ExtendsBoard b (grown m most b t)
-extends-grown m most b t =
+extends-grown : (m : ℕ) (b : Board) (t : Task) → ExtendsBoard b (grown m b t)
+extends-grown m b t =
     elim (cases_Bool (is_recurring t.status)) [
-      | inl recurring ↦ rw recurring (extends-instances m t (count b t.id) (batch m most b t) b)
+      | inl recurring ↦ rw recurring (extends-instances m t (count b t.id) (batch m b t) b)
       | inr other ↦ rw other (board-refl b)
     ]
 
-extends-all : (m most : ℕ) (b : Board) (ts : List Task) → ExtendsBoard b (grown_all m most b ts)
-extends-all m most b [] = board-refl b
-extends-all m most b (t ∷ ts) = board-trans b (grown m most b t) (grown_all m most (grown m most b t) ts) (extends-grown m most b t) (extends-all m most (grown m most b t) ts)
+extends-all : (m : ℕ) (b : Board) (ts : List Task) → ExtendsBoard b (grown_all m b ts)
+extends-all m b [] = board-refl b
+extends-all m b (t ∷ ts) = board-trans b (grown m b t) (grown_all m (grown m b t) ts) (extends-grown m b t) (extends-all m (grown m b t) ts)
 
 pub extends-sweep : (b : Board) (m : ℕ) → ExtendsBoard b (sweep b m)
-extends-sweep b m = board-trans b (wake b m) (sweep b m) (board-wake b m) (extends-all m (most_swept (wake b m)) (wake b m) (wake b m).tasks)
+extends-sweep b m = board-trans b (wake b m) (sweep b m) (board-wake b m) (extends-all m (wake b m) (wake b m).tasks)

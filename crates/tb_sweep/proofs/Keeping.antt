@@ -20,7 +20,7 @@ use Rattle.tb_board.proofs.Fits.{IsFit, fit_if, taken_if}
 use Rattle.tb_board.proofs.Fresh.{fresh}
 use Rattle.tb_board.proofs.Goodness.{good-push, good-wake, lacks-more, linked-more}
 use Rattle.tb_sweep.specs.Kept.{SweepKeepsGood}
-use Rattle.tb_sweep.specs.Sweeping.{batch, grown, grown_all, most_swept, with_instances}
+use Rattle.tb_sweep.specs.Sweeping.{batch, grown, grown_all, with_instances}
 use Rattle.tb_sweep.proofs.Adding.{id-instance}
 
 settled_plain : (wait : Option ℕ) (m : ℕ) → is_recurring (settled wait m) ≡ false
@@ -143,22 +143,22 @@ kept_instances m t k (suc n) b us grows next room kept =
     (omega (arith, room, length-append b.tasks (made ∷ [])))
     (kept_one m t k b us grows next (omega (arith, room)) kept)
 
-kept_grown : (m most : ℕ) (b : Board) (t : Task) (us : List Task) → IsSound t → IsLinkedOn b t → IsTemplateIn b.tasks t → Kept b us → Kept (grown m most b t) us
-kept_grown m most b t us sound linked template kept =
+kept_grown : (m : ℕ) (b : Board) (t : Task) (us : List Task) → IsSound t → IsLinkedOn b t → IsTemplateIn b.tasks t → Kept b us → Kept (grown m b t) us
+kept_grown m b t us sound linked template kept =
     elim (cases_Bool (is_recurring t.status)) [
       | inl recurring ↦
-          rw recurring (kept_instances m t (count b t.id) (batch m most b t) b us (record { sound = sound; linked = linked; template = template recurring }) refl (omega arith) kept)
+          rw recurring (kept_instances m t (count b t.id) (batch m b t) b us (record { sound = sound; linked = linked; template = template recurring }) refl (omega arith) kept)
       | inr other ↦ rw other kept
     ]
 
-kept_all : (m most : ℕ) (b : Board) (us : List Task) → AllByRecursion IsSound us → Kept b us → IsGood (grown_all m most b us)
-kept_all m most b [] sound kept = kept.good
-kept_all m most b (t ∷ ts) sound kept =
-    kept_all m most (grown m most b t) ts sound.1
-    (kept_grown m most b t ts sound.0 kept.linked.0 kept.templates.0 (record { good = kept.good; linked = kept.linked.1; templates = kept.templates.1 }))
+kept_all : (m : ℕ) (b : Board) (us : List Task) → AllByRecursion IsSound us → Kept b us → IsGood (grown_all m b us)
+kept_all m b [] sound kept = kept.good
+kept_all m b (t ∷ ts) sound kept =
+    kept_all m (grown m b t) ts sound.1
+    (kept_grown m b t ts sound.0 kept.linked.0 kept.templates.0 (record { good = kept.good; linked = kept.linked.1; templates = kept.templates.1 }))
 
 pub sweep_kept : SweepKeepsGood
 sweep_kept b m good =
     let awake = good-wake b m good in
     let ts = (wake b m).tasks in
-    kept_all m (most_swept (wake b m)) (wake b m) ts awake.sound (record { good = awake; linked = awake.linked; templates = own_templates ts ts (λ p h. h) awake.sound })
+    kept_all m (wake b m) ts awake.sound (record { good = awake; linked = awake.linked; templates = own_templates ts ts (λ p h. h) awake.sound })

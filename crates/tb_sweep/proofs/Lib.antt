@@ -5,5 +5,4 @@ pub mod Extending
 pub mod Keeping
 pub mod Noting
 pub mod QuietBoards
-pub mod Rooms
 pub mod Settled

@@ -16,7 +16,7 @@ use Rattle.tb_board.specs.Templates.{count, gone_places}
 use Rattle.tb_board.proofs.FirstWaits.{both, is_awake, neither, none_push, none_set}
 use Rattle.tb_board.proofs.Recurring.{places_last, set_places}
 use Rattle.tb_sweep.specs.Quiet.{IsQuiet, is_one, lacks_at}
-use Rattle.tb_sweep.specs.Sweeping.{added, lacks, more, most_swept, need_of, sweep, with_wanted}
+use Rattle.tb_sweep.specs.Sweeping.{added, lacks, more, need_of, sweep, with_wanted}
 use Rattle.tb_sweep.proofs.Settled.{none_lack}
 
 -- ---- a board is gone through by the places at which tasks recur
@@ -63,7 +63,7 @@ gone_counted id gs = sym (length-filter (λ (g : Gone). g.template == id) gs) �
 -- ---- the sweep leaves a quiet board
 
 pub sweep_quiet : (b : Board) (m : ℕ) → IsQuiet m b → sweep b m ≡ b
-sweep_quiet b m quiet = ap (with_wanted m) (is_awake b m quiet.awake) ∙ none_lack m (most_swept b) b b.tasks quiet.settled
+sweep_quiet b m quiet = ap (with_wanted m) (is_awake b m quiet.awake) ∙ none_lack m b b.tasks quiet.settled
 
 pub added_quiet : (b : Board) (m : ℕ) → IsQuiet m b → added b m ≡ 0
 added_quiet b m quiet = rw (sweep_quiet b m quiet) (omega arith)

@@ -14,20 +14,20 @@ use Rattle.tb_board.specs.Numbers.{free_id}
 use Rattle.tb_board.specs.Templates.{count}
 use Rattle.tb_board.proofs.Awake.{not_woken, is_woken}
 use Rattle.tb_board.proofs.Goodness.{all_push}
-use Rattle.tb_sweep.specs.Kept.{SweepAddsLast, SweepEnds, SweepWithoutRoom}
-use Rattle.tb_sweep.specs.Sweeping.{added, batch, grown, grown_all, lacks, most_swept, need_of, sweep, with_instances, with_wanted}
+use Rattle.tb_sweep.specs.Kept.{SweepAddsLast, SweepEnds}
+use Rattle.tb_sweep.specs.Sweeping.{batch, grown, grown_all, lacks, need_of, sweep, with_instances}
 use Rattle.tb_sweep.proofs.Adding.{grown_last}
 
-all_last : (m most : ℕ) (b : Board) (ts : List Task) → (new : List Task) × ((grown_all m most b ts).tasks ≡ b.tasks ++ new)
-all_last m most b [] = ([], sym (append-nil b.tasks))
-all_last m most b (t ∷ ts) =
-    let first = grown_last m most b t in
-    let later = all_last m most (grown m most b t) ts in
+all_last : (m : ℕ) (b : Board) (ts : List Task) → (new : List Task) × ((grown_all m b ts).tasks ≡ b.tasks ++ new)
+all_last m b [] = ([], sym (append-nil b.tasks))
+all_last m b (t ∷ ts) =
+    let first = grown_last m b t in
+    let later = all_last m (grown m b t) ts in
     (first.0 ++ later.0, later.1 ∙ ap (λ us. us ++ later.0) first.1 ∙ append_assoc b.tasks first.0 later.0)
 
 pub adds_last : SweepAddsLast
 adds_last b m =
-    let new = all_last m (most_swept (wake b m)) (wake b m) (wake b m).tasks in
+    let new = all_last m (wake b m) (wake b m).tasks in
     let size : length (sweep b m).tasks ≡ length (wake b m).tasks + length new.0 = ap length new.1 ∙ length-append (wake b m).tasks new.0 in
     (new.0, new.1, omega (arith, size, length-map b.tasks (woken m)))
 
@@ -67,110 +67,70 @@ awake_instances m t k (suc n) b awake =
     let made = instance t k (free_id b) m in
     awake_instances m t (k + 1) n (with_task b made) (all_push (IsAwake m) b.tasks made awake (awake_instance m t k (free_id b)))
 
-awake_grown : (m most : ℕ) (b : Board) (t : Task) → AllByRecursion (IsAwake m) b.tasks → AllByRecursion (IsAwake m) (grown m most b t).tasks
-awake_grown m most b t awake =
+awake_grown : (m : ℕ) (b : Board) (t : Task) → AllByRecursion (IsAwake m) b.tasks → AllByRecursion (IsAwake m) (grown m b t).tasks
+awake_grown m b t awake =
     elim (cases_Bool (is_recurring t.status)) [
-      | inl recurring ↦ rw recurring (awake_instances m t (count b t.id) (batch m most b t) b awake)
+      | inl recurring ↦ rw recurring (awake_instances m t (count b t.id) (batch m b t) b awake)
       | inr other ↦ rw other awake
     ]
 
-awake_all : (m most : ℕ) (b : Board) (ts : List Task) → AllByRecursion (IsAwake m) b.tasks → AllByRecursion (IsAwake m) (grown_all m most b ts).tasks
-awake_all m most b [] awake = awake
-awake_all m most b (t ∷ ts) awake = awake_all m most (grown m most b t) ts (awake_grown m most b t awake)
+awake_all : (m : ℕ) (b : Board) (ts : List Task) → AllByRecursion (IsAwake m) b.tasks → AllByRecursion (IsAwake m) (grown_all m b ts).tasks
+awake_all m b [] awake = awake
+awake_all m b (t ∷ ts) awake = awake_all m (grown m b t) ts (awake_grown m b t awake)
 
 stays_awake : (m : ℕ) (ts : List Task) → AllByRecursion (IsAwake m) ts → map (woken m) ts ≡ ts
 stays_awake m [] awake = refl
 stays_awake m (t ∷ ts) awake = rw (not_woken m t awake.0, stays_awake m ts awake.1) refl
 
 -- where no template lacks an instance none is added
-none_lacking : (m most : ℕ) (b : Board) (t : Task) → lacks b m t ≡ false → grown m most b t ≡ b
-none_lacking m most b t none =
+none_lacking : (m : ℕ) (b : Board) (t : Task) → lacks b m t ≡ false → grown m b t ≡ b
+none_lacking m b t none =
     elim (cases_Bool (is_recurring t.status)) [
       | inl recurring ↦
           let enough : nat_lt (count b t.id) (need_of t b.ahead m) ≡ false = rw recurring at none in
-          let no_more : batch m most b t ≡ 0 = omega (arith, ltb-false (count b t.id) (need_of t b.ahead m) enough) in
+          let no_more : batch m b t ≡ 0 = omega (arith, ltb-false (count b t.id) (need_of t b.ahead m) enough) in
           rw (recurring, no_more) refl
       | inr other ↦ rw other refl
     ]
 
-pub none_lack : (m most : ℕ) (b : Board) (ts : List Task) → list_any (lacks b m) ts ≡ false → grown_all m most b ts ≡ b
-none_lack m most b [] none = refl
-none_lack m most b (t ∷ ts) none =
+pub none_lack : (m : ℕ) (b : Board) (ts : List Task) → list_any (lacks b m) ts ≡ false → grown_all m b ts ≡ b
+none_lack m b [] none = refl
+none_lack m b (t ∷ ts) none =
     elim (cases_Bool (lacks b m t)) [
       | inl here ↦ let wrong : true ≡ false = rw here at none in absurd (true≢false wrong)
       | inr other ↦
           let rest : list_any (lacks b m) ts ≡ false = rw other at none in
-          ap (λ (c : Board). grown_all m most c ts) (none_lacking m most b t other) ∙ none_lack m most b ts rest
+          ap (λ (c : Board). grown_all m c ts) (none_lacking m b t other) ∙ none_lack m b ts rest
     ]
 
 -- a board that is swept is awake
 pub wake_swept : (b : Board) (m : ℕ) → wake (sweep b m) m ≡ sweep b m
 wake_swept b m =
-    let awake = awake_all m (most_swept (wake b m)) (wake b m) (wake b m).tasks (awake_wake m b.tasks) in
+    let awake = awake_all m (wake b m) (wake b m).tasks (awake_wake m b.tasks) in
     ap (λ ts. record (sweep b m) { tasks = ts }) (stays_awake m (sweep b m).tasks awake)
 
 pub sweep_ends : SweepEnds
 sweep_ends b m none =
     let later = sweep b m in
-    ap (with_wanted m) (wake_swept b m) ∙ none_lack m (most_swept later) later later.tasks none
+    ap (λ (c : Board). grown_all m c c.tasks) (wake_swept b m) ∙ none_lack m later later.tasks none
 
-pub length-instances : (m : ℕ) (t : Task) (k n : ℕ) (b : Board) → length (with_instances m t k n b).tasks ≡ length b.tasks + n
+length-instances : (m : ℕ) (t : Task) (k n : ℕ) (b : Board) → length (with_instances m t k n b).tasks ≡ length b.tasks + n
 length-instances m t k zero b = omega arith
 length-instances m t k (suc n) b =
     let made = instance t k (free_id b) m in
     omega (arith, length-instances m t (k + 1) n (with_task b made), length-append b.tasks (made ∷ []))
 
-fits_grown : (m most : ℕ) (b : Board) (t : Task) → length b.tasks ≤ 10000 → length (grown m most b t).tasks ≤ 10000
-fits_grown m most b t fits =
+fits_grown : (m : ℕ) (b : Board) (t : Task) → length b.tasks ≤ 10000 → length (grown m b t).tasks ≤ 10000
+fits_grown m b t fits =
     elim (cases_Bool (is_recurring t.status)) [
-      | inl recurring ↦ rw recurring (omega (arith, fits, length-instances m t (count b t.id) (batch m most b t) b))
+      | inl recurring ↦ rw recurring (omega (arith, fits, length-instances m t (count b t.id) (batch m b t) b))
       | inr other ↦ rw other fits
     ]
 
-fits_all : (m most : ℕ) (b : Board) (ts : List Task) → length b.tasks ≤ 10000 → length (grown_all m most b ts).tasks ≤ 10000
-fits_all m most b [] fits = fits
-fits_all m most b (t ∷ ts) fits = fits_all m most (grown m most b t) ts (fits_grown m most b t fits)
+fits_all : (m : ℕ) (b : Board) (ts : List Task) → length b.tasks ≤ 10000 → length (grown_all m b ts).tasks ≤ 10000
+fits_all m b [] fits = fits
+fits_all m b (t ∷ ts) fits = fits_all m (grown m b t) ts (fits_grown m b t fits)
 
 -- the sweep stops where the board is full
 pub sweep_fits : (b : Board) (m : ℕ) → length b.tasks ≤ 10000 → length (sweep b m).tasks ≤ 10000
-sweep_fits b m fits = fits_all m (most_swept (wake b m)) (wake b m) (wake b m).tasks (omega (arith, fits, length-map b.tasks (woken m)))
-
--- ---- a sweep that adds nothing
-
--- a template by which no task comes leaves the board
-none_grows : (m most : ℕ) (b : Board) (t : Task) → length (grown m most b t).tasks ≡ length b.tasks → grown m most b t ≡ b
-none_grows m most b t same =
-    elim (cases_Bool (is_recurring t.status)) [
-      | inl recurring ↦
-          let size : length (with_instances m t (count b t.id) (batch m most b t) b).tasks ≡ length b.tasks = rw recurring at same in
-          let none : batch m most b t ≡ 0 = omega (arith, size, length-instances m t (count b t.id) (batch m most b t) b) in
-          rw (recurring, none) refl
-      | inr other ↦ rw other refl
-    ]
-
-grown_more : (m most : ℕ) (b : Board) (t : Task) → length b.tasks ≤ length (grown m most b t).tasks
-grown_more m most b t =
-    let new = grown_last m most b t in
-    let size : length (grown m most b t).tasks ≡ length b.tasks + length new.0 = ap length new.1 ∙ length-append b.tasks new.0 in
-    omega (arith, size)
-
-pub all_more : (m most : ℕ) (b : Board) (ts : List Task) → length b.tasks ≤ length (grown_all m most b ts).tasks
-all_more m most b [] = omega arith
-all_more m most b (t ∷ ts) = omega (arith, grown_more m most b t, all_more m most (grown m most b t) ts)
-
--- templates by which no task comes leave the board
-pub none_grow : (m most : ℕ) (b : Board) (ts : List Task) → length (grown_all m most b ts).tasks ≡ length b.tasks → grown_all m most b ts ≡ b
-none_grow m most b [] same = refl
-none_grow m most b (t ∷ ts) same =
-    let here : length (grown m most b t).tasks ≡ length b.tasks = omega (arith, same, grown_more m most b t, all_more m most (grown m most b t) ts) in
-    let first = none_grows m most b t here in
-    let rest : length (grown_all m most b ts).tasks ≡ length b.tasks = ap (λ (c : Board). length (grown_all m most c ts).tasks) (sym first) ∙ same in
-    ap (λ (c : Board). grown_all m most c ts) first ∙ none_grow m most b ts rest
-
-pub sweep_without_room : SweepWithoutRoom
-sweep_without_room b m none =
-    let awake = wake b m in
-    let size : length (sweep b m).tasks ≡ length awake.tasks =
-    omega (arith, none, all_more m (most_swept awake) awake awake.tasks, length-map b.tasks (woken m)) in
-    let first : sweep b m ≡ awake = none_grow m (most_swept awake) awake awake.tasks size in
-    (first, ap (with_wanted m) (wake_swept b m ∙ first))
+sweep_fits b m fits = fits_all m (wake b m) (wake b m).tasks (omega (arith, fits, length-map b.tasks (woken m)))

@@ -1,4 +1,4 @@
--- The sweep of a board that doesn't look ahead: the first text, which the newer one has where the board looks one ahead. It has the same room.
+-- The sweep of a board that doesn't look ahead: the first text, which the newer one has where the board looks one ahead.
 use Rattle.std.specs.Prelude.{◌≡◌, ℕ, ◌-◌, min, Bool, ◌&&◌, List, [], ◌∷◌, Option, Some, None, if◌then◌else◌, length, nat_lt}
 use Rattle.std.specs.List.{list_any}
 use Rattle.tb_task.specs.declared.task.Task.{Task}
@@ -8,9 +8,8 @@ use Rattle.tb_recur.specs.AtOnce.{need_at_once}
 use Rattle.tb_recur.specs.Instances.{plan_of}
 use Rattle.tb_board.specs.declared.board.Board.{Board}
 use Rattle.tb_board.specs.Board.{wake}
-use Rattle.tb_board.specs.LinkRoom.{link_room}
 use Rattle.tb_board.specs.Templates.{count}
-use Rattle.tb_sweep.specs.Sweeping.{board_weight, more, most_swept, room_by_links, room_by_weight, sweep, with_instances}
+use Rattle.tb_sweep.specs.Sweeping.{more, sweep, with_instances}
 use Rattle.tb_task.specs.Limits.{most_at_once, most_tasks}
 
 -- the least place that isn't wanted by a template at m
@@ -22,25 +21,23 @@ abbrev pub need_of_at_once : Task → ℕ → ℕ
 need_of_at_once t m = planned_at_once (plan_of t) m
 
 -- how many instances a template gets: those it needs beyond its count, but so many at once at most and no more than there is room for
-abbrev pub batch_at_once : ℕ → ℕ → Board → Task → ℕ
-batch_at_once m most b t =
-    min (min (min most_at_once (most_tasks - length b.tasks))
-    (need_of_at_once t m - count b t.id))
-    (min (room_by_links (link_room b) t) (room_by_weight (most - board_weight b) t))
+abbrev pub batch_at_once : ℕ → Board → Task → ℕ
+batch_at_once m b t =
+    min (min most_at_once (most_tasks - length b.tasks)) (need_of_at_once t m - count b t.id)
 
 -- a template that recurs gets its instances
-abbrev pub grown_at_once : ℕ → ℕ → Board → Task → Board
-grown_at_once m most b t = if is_recurring t.status
-    then with_instances m t (count b t.id) (batch_at_once m most b t) b else b
+abbrev pub grown_at_once : ℕ → Board → Task → Board
+grown_at_once m b t = if is_recurring t.status
+    then with_instances m t (count b t.id) (batch_at_once m b t) b else b
 
 -- the templates among these tasks get their instances, in order
-abbrev pub all_at_once : ℕ → ℕ → Board → List Task → Board
-all_at_once m most b [] = b
-all_at_once m most b (t ∷ ts) = all_at_once m most (grown_at_once m most b t) ts
+abbrev pub all_at_once : ℕ → Board → List Task → Board
+all_at_once m b [] = b
+all_at_once m b (t ∷ ts) = all_at_once m (grown_at_once m b t) ts
 
 -- the board at a moment: awake, and with the instances that are wanted
 abbrev pub sweep_at_once : Board → ℕ → Board
-sweep_at_once b m = all_at_once m (most_swept (wake b m)) (wake b m) (wake b m).tasks
+sweep_at_once b m = all_at_once m (wake b m) (wake b m).tasks
 
 -- how many instances the sweep adds
 abbrev pub added_at_once : Board → ℕ → ℕ

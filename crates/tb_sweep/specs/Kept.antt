@@ -15,11 +15,6 @@ abbrev pub SweepAddsLast : Type 0
 SweepAddsLast = (b : Board) (m : ℕ)
     → (new : List Task) × ((sweep b m).tasks ≡ (wake b m).tasks ++ new) × (length new ≡ added b m)
 
--- a sweep that adds nothing leaves the board awake, and adds nothing again at the same moment
-abbrev pub SweepWithoutRoom : Type 0
-SweepWithoutRoom = (b : Board) (m : ℕ) → added b m ≡ 0
-    → (sweep b m ≡ wake b m) × (sweep (sweep b m) m ≡ sweep b m)
-
 -- where no template still lacks an instance, a further sweep at the same moment leaves the board
 abbrev pub SweepEnds : Type 0
 SweepEnds = (b : Board) (m : ℕ) → more (sweep b m) m ≡ false → sweep (sweep b m) m ≡ sweep b m

@@ -1,7 +1,7 @@
 //! Laws over the definition of the sweep.
 
 ghost use Rattle.tb_sweep.specs.AtOnce.{OneAheadSweepsAtOnce};
-ghost use Rattle.tb_sweep.specs.Kept.{SweepAddsLast, SweepEnds, SweepKeepsGood, SweepWithoutRoom};
+ghost use Rattle.tb_sweep.specs.Kept.{SweepAddsLast, SweepEnds, SweepKeepsGood};
 
 /// The sweep leaves a good board good.
 pub fn sweep_keeps_good()
@@ -16,11 +16,6 @@ pub fn sweep_adds_last()
 /// Where nothing more is wanted, a further sweep at the same moment changes nothing.
 pub fn sweep_ends()
     ensures { SweepEnds }
-{}
-
-/// A sweep that adds nothing adds nothing again at the same moment, whether no template lacks an instance or none has room.
-pub fn sweep_without_room()
-    ensures { SweepWithoutRoom }
 {}
 
 /// A board that looks one ahead is swept as boards were before they could look ahead.

@@ -10,9 +10,9 @@ ghost use Rattle.tb_task.specs.declared.task.Task.{Task};
 use crate::counts::Counts;
 use crate::growing::{Growing, grown_all};
 use std::alloc::{AllocError, Global};
-use tb_board::{Ahead, Board, Draft, room_for_links, taken_numbers, wake_draft};
+use tb_board::{Ahead, Board, Draft, taken_numbers, wake_draft};
 use tb_recur::plan_of;
-use tb_task::{MOST_WEIGHT, Moment, Task, is_recurring_status};
+use tb_task::{Moment, Task, is_recurring_status};
 use tb_values::Shared;
 
 /// A board after the sweep, how many instances it got, and whether a template still has fewer than it needs.
@@ -62,13 +62,10 @@ fn with_wanted(alloc: Global, draft: Draft, at: Moment) -> Result<Growing, Alloc
 {
     let marks = taken_numbers(alloc, &draft.board)?;
     let counts = Counts::of(alloc, &draft.board)?;
-    let links = room_for_links(&draft.board);
     let growing = Growing {
         draft,
         counts,
         next: 1,
-        links,
-        weight: MOST_WEIGHT,
     };
     grown_all(alloc, growing, &marks, at)
 }

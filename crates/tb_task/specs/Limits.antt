@@ -33,13 +33,3 @@ longest_body = 1048576
 -- Rule: a sweep adds at most 64 instances of a template. Tried by instances_after_a_gap.
 abbrev pub most_at_once : ℕ
 most_at_once = 64
-
--- the most links of a board that a command adds links to: all `depends` of its tasks
--- Rule: a command adds links to a board up to 65,536. Refused as Full. Tried by links_full.
-abbrev pub most_links : ℕ
-most_links = 65536
-
--- the most weight of the instances that a sweep adds
--- Rule: a sweep adds instances of 50,331,648 of weight at most. Tried by weight_of_a_sweep.
-abbrev pub most_weight : ℕ
-most_weight = 50331648

@@ -20,9 +20,3 @@ pub const LONGEST_BODY: usize = 1_048_576;
 
 /// How many instances a template gets at once at most.
 pub const MOST_AT_ONCE: usize = 64;
-
-/// Up to how many links commands add links to a board: all `depends` of its tasks.
-pub const MOST_LINKS: usize = 65_536;
-
-/// How much the instances that a sweep adds weigh at most.
-pub const MOST_WEIGHT: usize = 50_331_648;

@@ -119,7 +119,6 @@ fn of_boards(alloc: Global, word: &str, given: &str) -> Finding {
         "todo_tasks" => todo_lines::tasks(alloc, given),
         "task" => json::task(alloc, given),
         "many_tags" => json::many_tags(alloc, given),
-        "edit" => json::edit(alloc, given),
         "edits" => json::edits(alloc, given),
         "import" => json::import(alloc, given),
         "stored" => json::stored(alloc, given),

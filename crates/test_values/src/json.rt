@@ -4,10 +4,10 @@ use crate::given::{halves, now, read_count, text_of};
 use crate::tasks::read;
 use std::alloc::{AllocError, Global};
 use tb_json::{
-    ImportFault, JsonFault, parse, read_edit, read_import, read_modify, read_stored, read_task,
-    write_stored, write_task, write_tasks,
+    ImportFault, JsonFault, parse, read_import, read_modify, read_stored, read_task, write_stored,
+    write_task, write_tasks,
 };
-use tb_task::{Edit, Incoming, Shown, TaskId, check};
+use tb_task::{Incoming, Shown, TaskId, check};
 use tb_values::Shared;
 
 fn told(alloc: Global, fault: &JsonFault) -> Finding {
@@ -63,30 +63,11 @@ pub(crate) fn edits(alloc: Global, text: &str) -> Finding {
         Ok(edits) => edits,
         Err(fault) => return told(alloc, &fault),
     };
-    named(alloc, edits.as_slice(), " set\n", " removed\n")
-}
-
-/// The names of the attributes that an edit of what was seen sets or removes, and of those that were seen.
-pub(crate) fn edit(alloc: Global, text: &str) -> Finding {
-    let Some(value) = parse(alloc, text)? else {
-        return say(alloc, "no JSON");
-    };
-    let edit = match read_edit(alloc, &value) {
-        Ok(edit) => edit,
-        Err(fault) => return told(alloc, &fault),
-    };
-    let mut all = named(alloc, edit.set.as_slice(), " set\n", " removed\n")?;
-    let seen = named(alloc, edit.was.as_slice(), " seen\n", " seen as none\n")?;
-    all.push_str(seen.as_str())?;
-    Ok(all)
-}
-
-/// A line for each edit: its name, and one of these words as it has a value or none.
-fn named(alloc: Global, edits: &[Edit], some: &str, none: &str) -> Finding {
     let mut all = String::new(alloc);
-    for edit in edits {
+    for edit in edits.as_slice() {
+        let is_set = edit.value.is_some();
         all.push_str(edit.name.as_str())?;
-        all.push_str(if edit.value.is_some() { some } else { none })?;
+        all.push_str(if is_set { " set\n" } else { " removed\n" })?;
     }
     Ok(all)
 }

@@ -1,5 +1,5 @@
 use Rattle.std.proofs.Common.{sym, ◌∙◌}
-use Rattle.tb_core.proofs.Depending.{linked_before, linked_now, linked_past}
+use Rattle.tb_core.proofs.Depending.{linked_before, linked_now}
 use Rattle.tb_core.proofs.linking.depend.Goals as goal
 
 pub returns-then-is_linked_to-clause-gives : goal.returns-then-is_linked_to-clause-gives
@@ -8,15 +8,9 @@ returns-then-is_linked_to-clause-gives c =
     c.in_ok-place.ensures.place c.task_at-task.ensures
     (sym c.in_ok-is_cycle.ensures ∙ c.if-branch.false) (sym c.is_linked_to.ensures ∙ c.if-is_linked_to.true)
 
-pub returns-then-has_no_link_room-clause-gives : goal.returns-then-has_no_link_room-clause-gives
-returns-then-has_no_link_room-clause-gives c =
-    linked_past c.args.board.now c.args.id c.args.on c.args.at c.in_ok-place.place c.task_at-task.result.now
-    c.in_ok-place.ensures.place c.task_at-task.ensures
-    (sym c.in_ok-is_cycle.ensures ∙ c.if-branch.false) (sym c.is_linked_to.ensures ∙ c.if-is_linked_to.false) (sym c.has_no_link_room.ensures ∙ c.if-has_no_link_room.true)
-
 pub returns-clause-gives : goal.returns-clause-gives
 returns-clause-gives c =
     rw c.in_ok-task.ensures
     (linked_now c.args.board.now c.args.id c.args.on c.args.at c.in_ok-place.place c.task_at-task.result.now
     c.in_ok-place.ensures.place c.task_at-task.ensures
-    (sym c.in_ok-is_cycle.ensures ∙ c.if-branch.false) (sym c.is_linked_to.ensures ∙ c.if-is_linked_to.false) (sym c.has_no_link_room.ensures ∙ c.if-has_no_link_room.false))
+    (sym c.in_ok-is_cycle.ensures ∙ c.if-branch.false) (sym c.is_linked_to.ensures ∙ c.if-is_linked_to.false))

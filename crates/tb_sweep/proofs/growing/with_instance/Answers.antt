@@ -1,9 +1,8 @@
-use Rattle.std.proofs.Common.{◌∙◌, ap, arith}
+use Rattle.std.proofs.Common.{◌∙◌, ap}
 use Rattle.tb_task.specs.declared.task.Task.{Task}
 use Rattle.tb_board.proofs.KnownNumbers.{knows_more}
 use Rattle.tb_sweep.proofs.Adding.{id-instance}
 use Rattle.tb_sweep.proofs.Counting.{counts_more}
-use Rattle.tb_sweep.proofs.Rooms.{left_after, links_after}
 use Rattle.tb_sweep.proofs.growing.with_instance.Goals as goal
 
 pub returns-clause-growing : goal.returns-clause-growing
@@ -16,13 +15,4 @@ returns-clause-growing c =
       knows = knows_more b c.args.marks.now c.args.growing.next c.next_number-number.result c.in_ok-task.task c.requires.growing.knows c.next_number-number.ensures.next
           (ap (λ (u : Task). u.id) made' ∙ id-instance t _ _ _);
       counts = rw made' (counts_more b c.args.growing.counts c.add.new.self t _ _ _ c.requires.growing.counts c.in_ok-add.ensures);
-      links = links_after b c.in_ok-task.task c.args.growing.links c.saturating_sub-links.result c.requires.growing.links (rw c.as_slice.ensures.items at c.saturating_sub-links.ensures);
-      light = omega (arith, c.requires.growing.light);
     })
-
-pub returns-clause-left : goal.returns-clause-left
-returns-clause-left c = λ most before.
-    let b = c.args.growing.draft.board in
-    rw c.in_ok-draft.ensures.board
-    (c.saturating_sub-weight.ensures
-    ∙ left_after b c.in_ok-task.task c.args.growing.weight c.weight_of.result most c.requires.growing.light c.weight_of.ensures before)

@@ -22,6 +22,5 @@ loop-offset-preserved c =
           rw (c.in_ok-growing.ensures.added t here)
           (added_one c.args.at t t _ (c.args.first + c.loop-offset.offset) (c.args.number - c.loop-offset.offset) (c.args.number - (c.loop-offset.offset + 1)) (free_id b) b _ _ (omega arith) (omega arith)
           refl refl refl (c.loop-offset.invariant.same t at));
-      left = λ most h. c.in_ok-growing.ensures.left most (c.loop-offset.invariant.left most h);
       follows = λ start h. c.in_ok-growing.ensures.follows start (c.loop-offset.invariant.follows start h);
     }

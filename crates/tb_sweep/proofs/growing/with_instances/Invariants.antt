@@ -1,7 +1,7 @@
 use Rattle.std.proofs.Common.{◌≡◌, ◌+◌, ◌-◌, get_or, length}
 use Rattle.tb_task.specs.declared.task.Task.{Task}
 use Rattle.tb_board.specs.Changing.{Follows}
-use Rattle.tb_sweep.specs.Growing.{IsGrowing, KeepsLeft}
+use Rattle.tb_sweep.specs.Growing.{IsGrowing}
 use Rattle.tb_sweep.specs.Sweeping.{with_instances}
 use Rattle.tb_sweep.proofs.growing.with_instances.Given as goal
 
@@ -14,6 +14,5 @@ invariant-loop-offset l =
       template : (t : Task) → get_or l.growing.draft.board.tasks l.place t ≡ get_or l.fn.growing.draft.board.tasks l.place t;
       same : (t : Task) → t ≡ get_or l.fn.growing.draft.board.tasks l.place t
           → with_instances l.at t (l.first + l.offset) (l.number - l.offset) l.growing.draft.board ≡ with_instances l.at t l.first l.number l.fn.growing.draft.board;
-      left : KeepsLeft l.fn.growing l.growing;
       follows : Follows l.fn.growing.draft l.growing.draft;
     }
