@@ -1,4 +1,5 @@
 pub mod Names
+pub mod NewsBodies
 pub mod NoFloats
 pub mod RoleBodies
 pub mod RoleLists

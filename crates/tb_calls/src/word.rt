@@ -35,6 +35,7 @@ pub enum Word {
     History,
     HistoryOf,
     Me,
+    News,
 }
 
 impl Word {
@@ -74,6 +75,7 @@ impl Word {
             "history" => Word::History,
             "history-of" => Word::HistoryOf,
             "me" => Word::Me,
+            "news" => Word::News,
             _ => return None,
         };
         Some(word)

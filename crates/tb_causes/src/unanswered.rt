@@ -196,7 +196,8 @@ fn first_of(word: Word, first: &str) -> &str
         | Word::People
         | Word::History
         | Word::HistoryOf
-        | Word::Me => first,
+        | Word::Me
+        | Word::News => first,
     }
 }
 
@@ -241,7 +242,8 @@ fn second_of(word: Word, second: &str) -> &str
         | Word::People
         | Word::History
         | Word::HistoryOf
-        | Word::Me => second,
+        | Word::Me
+        | Word::News => second,
     }
 }
 

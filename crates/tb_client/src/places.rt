@@ -84,7 +84,8 @@ fn task_count(word: Word, size: usize) -> usize
         | Word::Title
         | Word::People
         | Word::History
-        | Word::Me => 0,
+        | Word::Me
+        | Word::News => 0,
     }
 }
 

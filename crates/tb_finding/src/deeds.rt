@@ -172,7 +172,8 @@ fn verb_of_word(word: Word) -> Option<&'static str>
         | Word::People
         | Word::History
         | Word::HistoryOf
-        | Word::Me => None,
+        | Word::Me
+        | Word::News => None,
     }
 }
 

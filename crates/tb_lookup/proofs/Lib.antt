@@ -25,3 +25,5 @@ pub mod StoredRoles
 pub mod Within
 pub mod WorldRead
 pub mod Excused
+pub mod FoundNews
+pub mod TaskCounts

@@ -39,7 +39,8 @@ pub fn stored_boards_of<S: Alter>(
     with_titles(alloc, conn, roles.as_slice())
 }
 
-fn roles_of<S: Alter>(
+/// The roles of the person of a number, by board.
+pub(crate) fn roles_of<S: Alter>(
     alloc: Global,
     conn: &mut Connection<S>,
     person: u32,

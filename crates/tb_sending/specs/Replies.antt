@@ -43,6 +43,7 @@ is_lines word.People = false
 is_lines word.History = false
 is_lines word.HistoryOf = false
 is_lines word.Me = false
+is_lines word.News = false
 
 abbrev pub asks_for_lines : List Text → Bool
 asks_for_lines [] = false

@@ -105,7 +105,8 @@ fn is_lines(word: Word) -> bool
         | Word::People
         | Word::History
         | Word::HistoryOf
-        | Word::Me => false,
+        | Word::Me
+        | Word::News => false,
     }
 }
 

@@ -2,4 +2,5 @@ pub mod RangeTests
 pub mod Turned
 pub mod Limits
 pub mod HistoryRows
+pub mod PlaceRows
 pub mod Numbered

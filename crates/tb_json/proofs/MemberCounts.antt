@@ -1,0 +1,11 @@
+-- How many members an object has.
+use Rattle.std.proofs.Common.{◌≡◌, suc, List, [], ◌∷◌, length, refl, ap}
+use Rattle.std.specs.Prelude.{String}
+use Rattle.std.specs.declared.alloc.Global.{Global}
+use Rattle.serde_json.specs.View.{members_view}
+use Rattle.serde_json.specs.declared.value.Value.{Value}
+use Rattle.tb_json.specs.Edit.{count_members}
+
+pub members_counted : (entries : List (String Global × Value)) → count_members (members_view entries) ≡ length entries
+members_counted [] = refl
+members_counted (entry ∷ entries) = ap suc (members_counted entries)
