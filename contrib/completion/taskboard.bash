@@ -55,7 +55,7 @@ _taskboard_of_send() {
     esac
     case $2 in
     -*) _taskboard_words "--id --for" "$2" ;;
-    *) _taskboard_words "list export todo task people history history-of me news add done delete reopen start stop modify annotate denotate depend undepend sweep import import-todo person board role ahead title take key own-key" "$2" ;;
+    *) _taskboard_words "list export todo task people history history-of me add done delete reopen start stop modify annotate denotate depend undepend sweep import import-todo person board role ahead title take key own-key" "$2" ;;
     esac
 }
 

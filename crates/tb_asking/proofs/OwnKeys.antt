@@ -108,10 +108,8 @@ call_method method path t e = (bytes_eq-Decides method (codes "POST")).0 (route_
 at_resource : (r : Resource) (message : Message) (at : ℕ) (call : Call) → resource_asked message.method message.target ≡ Ok r
     → asked_at r message at ≡ Ok (asked.Call call) → IsCallOf message at call
 at_resource resource.Me message at call is e = no_view view.Me (sender_of message) call _ e
-at_resource resource.News message at call is e = no_view view.News (sender_of message) call _ e
 at_resource (resource.Board n v) message at call is e = no_view (board_view n v) (sender_of message) call _ e
 at_resource (resource.Task n id) message at call is e = no_view (view.One n id) (sender_of message) call _ e
-at_resource (resource.ExportFrom n from) message at call is e = no_view (view.ExportFrom n from) (sender_of message) call _ e
 at_resource (resource.HistoryFrom n from) message at call is e = no_view (view.HistoryFrom n from) (sender_of message) call _ e
 at_resource (resource.TaskHistory n id) message at call is e = no_view (view.HistoryOf n id) (sender_of message) call _ e
 at_resource (resource.Call t) message at call is e = record {

@@ -79,13 +79,10 @@ asked_by target message at = asked_under (request_id_of message) target message 
 
 abbrev pub asked_at : Resource → Message → ℕ → Result Asked Rejection
 asked_at resource.Me message at = Ok (view_from view.Me (sender_of message))
-asked_at resource.News message at = Ok (view_from view.News (sender_of message))
 asked_at (resource.Board board asked) message at =
     Ok (view_from (board_view board asked) (sender_of message))
 asked_at (resource.Task board id) message at =
     Ok (view_from (view.One board id) (sender_of message))
-asked_at (resource.ExportFrom board place) message at =
-    Ok (view_from (view.ExportFrom board place) (sender_of message))
 asked_at (resource.HistoryFrom board number) message at =
     Ok (view_from (view.HistoryFrom board number) (sender_of message))
 asked_at (resource.TaskHistory board id) message at =

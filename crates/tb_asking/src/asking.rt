@@ -48,10 +48,8 @@ fn ask_for(
 {
     let view = match resource {
         Resource::Me => View::Me,
-        Resource::News => View::News,
         Resource::Board(board, view) => board_view(board, view),
         Resource::Task(board, id) => View::One(board, id),
-        Resource::ExportFrom(board, place) => View::ExportFrom(board, place),
         Resource::HistoryFrom(board, number) => View::HistoryFrom(board, number),
         Resource::TaskHistory(board, id) => View::HistoryOf(board, id),
         Resource::Call(target) => return ask_call(alloc, target, message, at),

@@ -1,5 +1,4 @@
 pub mod Names
-pub mod NewsBodies
 pub mod NoFloats
 pub mod RoleBodies
 pub mod RoleLists

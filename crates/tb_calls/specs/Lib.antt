@@ -2,7 +2,6 @@ pub mod Call
 pub mod History
 pub mod Keep
 pub mod Leaving
-pub mod News
 pub mod Roles
 pub mod Word
 pub mod Bodies

@@ -36,5 +36,4 @@ word_named name =
     else if bytes_eq name (codes "history") then Some word.History
     else if bytes_eq name (codes "history-of") then Some word.HistoryOf
     else if bytes_eq name (codes "me") then Some word.Me
-    else if bytes_eq name (codes "news") then Some word.News
     else None

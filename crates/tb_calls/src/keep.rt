@@ -8,12 +8,10 @@ ghost use Rattle.tb_calls.specs.Call.{State};
 ghost use Rattle.tb_calls.specs.History.{history_seen};
 ghost use Rattle.tb_calls.specs.Keep.{HoldsEither, IsStill, MayCommit, is_store, with_reply};
 ghost use Rattle.tb_calls.specs.Leaving.{Only};
-ghost use Rattle.tb_calls.specs.News.{news_of};
 ghost use Rattle.tb_calls.specs.Roles.{boards_of, people_for};
 
 use crate::call::{Call, KeptReply};
 use crate::fault::KeepFault;
-use crate::news::BoardNews;
 use crate::reply::Reply;
 use crate::role_bodies::{BoardRole, PersonRole};
 use std::alloc::Global;
@@ -93,16 +91,6 @@ pub trait Keep {
     fn boards_of(&mut self, alloc: Global, name: &Name) -> Result<Items<BoardRole>, KeepFault>
         ensures answer { is_honest self.new ≡ true → (s : State) → holds self.old s
             → IfOk result (λ boards. boards ≡ boards_of s.world name.now) }
-        ensures same { IsStill (holds self.old) (after_stop self.old) (holds self.new)
-            (after_stop self.new) }
-        ensures failed { has_failed self.new ≡ is_store result }
-        ensures honest { is_honest self.new ≡ true → is_honest self.old ≡ true }
-        ensures closed { has_failed self.old ≡ true → IsErrOf result Store };
-
-    /// How far the boards have come on which the person of that name has a role, by number.
-    fn news(&mut self, alloc: Global, name: &Name) -> Result<Items<BoardNews>, KeepFault>
-        ensures answer { is_honest self.new ≡ true → (s : State) → holds self.old s
-            → IfOk result (λ boards. boards ≡ news_of s name.now) }
         ensures same { IsStill (holds self.old) (after_stop self.old) (holds self.new)
             (after_stop self.new) }
         ensures failed { has_failed self.new ≡ is_store result }

@@ -7,8 +7,6 @@ pub enum View {
     Listing(u32),
     /// All tasks of a board as JSON.
     Export(u32),
-    /// The tasks of a board from a place on, which is counted from 1, as JSON. Their masks are those of the whole board.
-    ExportFrom(u32, u32),
     /// A line of todo.txt for each task of a board that has one.
     Todo(u32),
     /// One task of a board as JSON.
@@ -23,6 +21,4 @@ pub enum View {
     HistoryOf(u32, TaskId),
     /// The boards on which the person who looks has a role.
     Me,
-    /// How far the boards have come on which the person who looks has a role.
-    News,
 }

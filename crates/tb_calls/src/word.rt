@@ -35,7 +35,6 @@ pub enum Word {
     History,
     HistoryOf,
     Me,
-    News,
 }
 
 impl Word {
@@ -75,7 +74,6 @@ impl Word {
             "history" => Word::History,
             "history-of" => Word::HistoryOf,
             "me" => Word::Me,
-            "news" => Word::News,
             _ => return None,
         };
         Some(word)

@@ -196,8 +196,7 @@ fn first_of(word: Word, first: &str) -> &str
         | Word::People
         | Word::History
         | Word::HistoryOf
-        | Word::Me
-        | Word::News => first,
+        | Word::Me => first,
     }
 }
 
@@ -242,8 +241,7 @@ fn second_of(word: Word, second: &str) -> &str
         | Word::People
         | Word::History
         | Word::HistoryOf
-        | Word::Me
-        | Word::News => second,
+        | Word::Me => second,
     }
 }
 

@@ -57,7 +57,6 @@ task_count word.People size = 0
 task_count word.History size = 0
 task_count word.HistoryOf size = one_task size
 task_count word.Me size = 0
-task_count word.News size = 0
 
 -- the same by the word's name, of which none is no word
 abbrev pub named_count : Text → ℕ → ℕ

@@ -24,11 +24,11 @@ abbrev pub board_target : Text → Text → Option Text
 board_target board suffix = if is_some (number_to 4294967295 board)
     then Some (codes "/boards/" ++ (board ++ suffix)) else None
 
--- such a path, from a number on
-abbrev pub part_target : Text → Text → Text → Option Text
-part_target board suffix first =
+-- the path of a board's history from a number on
+abbrev pub history_target : Text → Text → Option Text
+history_target board first =
     if is_some (number_to 4294967295 board) && is_some (number_to 4294967295 first)
-    then Some (codes "/boards/" ++ (board ++ (suffix ++ 47 ∷ first))) else None
+    then Some (codes "/boards/" ++ (board ++ (codes "/history/" ++ first))) else None
 
 -- a path below a task of a board
 abbrev pub task_target : Text → Text → Text → Option Text
@@ -59,12 +59,12 @@ board_view suffix (board ∷ []) = option_map view_at (board_target board suffix
 board_view suffix [] = None
 board_view suffix (a ∷ b ∷ more) = None
 
--- the last entries of a history or all tasks, or those from a number on
-abbrev pub part_view : Text → List Text → Option Request
-part_view suffix (board ∷ []) = option_map view_at (board_target board suffix)
-part_view suffix (board ∷ first ∷ []) = option_map view_at (part_target board suffix first)
-part_view suffix [] = None
-part_view suffix (a ∷ b ∷ c ∷ more) = None
+-- the last entries of a history, or those from a number on
+abbrev pub history_view : List Text → Option Request
+history_view (board ∷ []) = option_map view_at (board_target board (codes "/history"))
+history_view (board ∷ first ∷ []) = option_map view_at (history_target board first)
+history_view [] = None
+history_view (a ∷ b ∷ c ∷ more) = None
 
 abbrev pub task_view : Text → List Text → Option Request
 task_view suffix (board ∷ uuid ∷ []) = option_map view_at (task_target board uuid suffix)
@@ -72,10 +72,10 @@ task_view suffix [] = None
 task_view suffix (a ∷ []) = None
 task_view suffix (a ∷ b ∷ c ∷ more) = None
 
--- the boards of who asks, or how far they have come
-abbrev pub own_view : Text → List Text → Option Request
-own_view target [] = Some (view_at target)
-own_view target (a ∷ more) = None
+-- the boards of who asks
+abbrev pub me_view : List Text → Option Request
+me_view [] = Some (view_at (codes "/me"))
+me_view (a ∷ more) = None
 
 -- the body is the argument behind the board
 abbrev pub board_call : Text → List Text → Option Request
@@ -210,12 +210,11 @@ ahead_call (a ∷ b ∷ c ∷ more) = None
 
 unfoldable pub request_for : Word → List Text → Option Request
 request_for word.List arguments = board_view (codes "/list") arguments
-request_for word.Export arguments = part_view (codes "/export") arguments
+request_for word.Export arguments = board_view (codes "/export") arguments
 request_for word.Todo arguments = board_view (codes "/todo") arguments
 request_for word.People arguments = board_view (codes "/people") arguments
-request_for word.Me arguments = own_view (codes "/me") arguments
-request_for word.News arguments = own_view (codes "/me/news") arguments
-request_for word.History arguments = part_view (codes "/history") arguments
+request_for word.Me arguments = me_view arguments
+request_for word.History arguments = history_view arguments
 request_for word.HistoryOf arguments = task_view (codes "/history") arguments
 request_for word.Task arguments = task_view [] arguments
 request_for word.Add arguments = add_call arguments

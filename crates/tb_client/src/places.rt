@@ -84,8 +84,7 @@ fn task_count(word: Word, size: usize) -> usize
         | Word::Title
         | Word::People
         | Word::History
-        | Word::Me
-        | Word::News => 0,
+        | Word::Me => 0,
     }
 }
 

@@ -2,7 +2,7 @@
 ghost use Rattle.std.specs.Prelude.{◌≡◌, ◌++◌, ◌∷◌, IfOk, codes, false, option_map};
 ghost use Rattle.serde_json.specs.View.{view};
 ghost use Rattle.serde_json.specs.Written.{compact_text, has_float};
-ghost use Rattle.tb_client.specs.Request.{add_call, ahead_call, ahead_data, ahead_request, bare_call, board_call, board_target, board_view, call_at, key_call, key_data, key_target, lines_call, lines_text, link_body, link_data, note_body, note_data, own_key_call, own_key_data, own_view, part_target, part_view, person_call, person_data, request_for, request_named, request_of, retitle_call, role_call, role_data, task_call, task_call_with, task_target, task_view, title_call, title_data, view_at};
+ghost use Rattle.tb_client.specs.Request.{add_call, ahead_call, ahead_data, ahead_request, bare_call, board_call, board_target, board_view, history_target, history_view, call_at, key_call, key_data, key_target, lines_call, lines_text, link_body, link_data, me_view, note_body, note_data, own_key_call, own_key_data, person_call, person_data, request_for, request_named, request_of, retitle_call, role_call, role_data, task_call, task_call_with, task_target, task_view, title_call, title_data, view_at};
 
 use crate::line::add_body;
 use serde_json::{Value, json};
@@ -49,12 +49,11 @@ fn request_for(alloc: Global, word: Word, arguments: &[Text]) -> Result<Option<R
 {
     match word {
         Word::List => board_view(alloc, "/list", arguments),
-        Word::Export => part_view(alloc, "/export", arguments),
+        Word::Export => board_view(alloc, "/export", arguments),
         Word::Todo => board_view(alloc, "/todo", arguments),
         Word::People => board_view(alloc, "/people", arguments),
-        Word::Me => own_view(alloc, "/me", arguments),
-        Word::News => own_view(alloc, "/me/news", arguments),
-        Word::History => part_view(alloc, "/history", arguments),
+        Word::Me => me_view(alloc, arguments),
+        Word::History => history_view(alloc, arguments),
         Word::HistoryOf => task_view(alloc, "/history", arguments),
         Word::Task => task_view(alloc, "", arguments),
         Word::Add => add_call(alloc, arguments),
@@ -96,23 +95,23 @@ fn board_view(
     Ok(view_at(target))
 }
 
-fn own_view(alloc: Global, target: &str, arguments: &[Text]) -> Result<Option<Request>, AllocError>
-    ensures { IfOk result (λ found. found ≡ own_view target.now arguments.now) }
+fn me_view(alloc: Global, arguments: &[Text]) -> Result<Option<Request>, AllocError>
+    ensures { IfOk result (λ found. found ≡ me_view arguments.now) }
 {
     if !arguments.is_empty() {
         return Ok(None);
     }
-    let target = Text::from_str(alloc, target)?;
+    let target = Text::from_str(alloc, "/me")?;
     Ok(view_at(Some(target)))
 }
 
-/// The last entries of a board's history or all its tasks, or those from a number on.
-fn part_view(alloc: Global, suffix: &str, arguments: &[Text]) -> Result<Option<Request>, AllocError>
-    ensures { IfOk result (λ found. found ≡ part_view suffix.now arguments.now) }
+/// The last entries of a board's history, or those from a number on.
+fn history_view(alloc: Global, arguments: &[Text]) -> Result<Option<Request>, AllocError>
+    ensures { IfOk result (λ found. found ≡ history_view arguments.now) }
 {
     let target = match arguments {
-        [board] => board_target(alloc, board, suffix)?,
-        [board, first] => part_target(alloc, board, suffix, first)?,
+        [board] => board_target(alloc, board, "/history")?,
+        [board, first] => history_target(alloc, board, first)?,
         _ => return Ok(None),
     };
     Ok(view_at(target))
@@ -419,14 +418,9 @@ pub(crate) fn board_target(
     Ok(Some(Text::from_string(target)))
 }
 
-/// A path below a board, from a number on.
-fn part_target(
-    alloc: Global,
-    board: &Text,
-    suffix: &str,
-    first: &Text,
-) -> Result<Option<Text>, AllocError>
-    ensures { IfOk result (λ target. target ≡ part_target board.now suffix.now first.now) }
+/// The path of a board's history from a number on.
+fn history_target(alloc: Global, board: &Text, first: &Text) -> Result<Option<Text>, AllocError>
+    ensures { IfOk result (λ target. target ≡ history_target board.now first.now) }
 {
     let board = board.as_str();
     let first = first.as_str();
@@ -434,7 +428,7 @@ fn part_target(
         return Ok(None);
     }
     let mut target = String::new(alloc);
-    write!(target, "/boards/{board}{suffix}/{first}")?;
+    write!(target, "/boards/{board}/history/{first}")?;
     Ok(Some(Text::from_string(target)))
 }
 

@@ -123,14 +123,14 @@ prints the answer's body. However often it is sent, a call acts once.
     MEMBER, KEY     who sends it. Other users of this machine can see a key that stands here: with -
                     it is read from the environment TASKBOARD_KEY, or else from the file
                     ~/.config/taskboard/key, which you alone may read (mode 0600)
-    WORD            list B, export B, export B FROM, todo B, people B, me, news, task B TASK,
-                    history B, history B N, history-of B TASK, add B JSON, add B WORDS ..,
-                    modify B TASK JSON, done, delete, reopen, start, stop, each B TASK,
-                    annotate, denotate, each B TASK TEXT, depend, undepend, each B TASK TASK,
-                    sweep B, import B JSON, import-todo B LINE .., person NAME KEY, board TITLE,
-                    role B NAME owner|member|reader|none, ahead B N (1 to 12), title B TITLE,
-                    take B, key NAME KEY|none, own-key OLD NEW; own-key alone, with - and a key
-                    in the file, makes the new key
+    WORD            list B, export B, todo B, people B, me, task B TASK, history B, history B N,
+                    history-of B TASK, add B JSON, add B WORDS .., modify B TASK JSON, done,
+                    delete, reopen, start, stop, each B TASK, annotate, denotate, each B TASK
+                    TEXT, depend, undepend, each B TASK TASK, sweep B, import B JSON,
+                    import-todo B LINE .., person NAME KEY, board TITLE, role B NAME
+                    owner|member|reader|none, ahead B N (1 to 12), title B TITLE, take B,
+                    key NAME KEY|none, own-key OLD NEW; own-key alone, with - and a key in the
+                    file, makes the new key
     TASK            a uuid, or the place of a task on the board as it is exported, from 1: the
                     server is first asked which task that is, and it is told on standard error
     WORDS           a line of todo.txt, as Buy milk due:2026-03-01 +Home @phone

@@ -16,7 +16,7 @@ use Rattle.tb_board.proofs.Places.{place}
 use Rattle.tb_history.specs.declared.page.Which.TheVariants as which
 use Rattle.tb_calls.specs.Call.{State, unknown_caller}
 use Rattle.tb_calls.specs.declared.view.View.{View}
-use Rattle.tb_calls.specs.declared.view.View.TheVariants.{Export, ExportFrom, History, HistoryFrom, HistoryOf, Listing, One, People, Todo}
+use Rattle.tb_calls.specs.declared.view.View.TheVariants.{Export, History, HistoryFrom, HistoryOf, Listing, One, People, Todo}
 use Rattle.tb_calls.specs.Roles.{people_for, people_on, role_on, where_some}
 use Rattle.tb_core.specs.Apply.{board_for, seen_with}
 use Rattle.tb_core.specs.GoodWorld.{IsGoodWorld, IsRoleIn, numbers}
@@ -30,7 +30,7 @@ use Rattle.tb_report.specs.Lists.{listing}
 use Rattle.tb_report.specs.Showing.{shown}
 use Rattle.tb_todotxt.specs.FileTexts.{file_text}
 use Rattle.tb_desk.specs.Admitting.{admission, refusal_in, refusal_without}
-use Rattle.tb_desk.specs.Viewing.{export_from, export_text, on_board, one_text, page_about, page_text, people_shown, seen_on, shown_in, view_of, view_reply}
+use Rattle.tb_desk.specs.Viewing.{export_text, on_board, one_text, page_about, page_text, people_shown, seen_on, shown_in, view_of, view_reply}
 
 -- ---- replies
 
@@ -196,7 +196,7 @@ shows_people w name n = people_to n (role_on w n (number_of w name)) (people_on 
 
 -- the views of a board that look at none of its tasks alone
 abbrev IsOfBoard : ℕ → View → Type 0
-IsOfBoard n v = (v ≡ Listing n) ⊎ ((v ≡ Export n) ⊎ ((v ≡ Todo n) ⊎ ((v ≡ People n) ⊎ ((v ≡ History n) ⊎ (((from : ℕ) × (v ≡ HistoryFrom n from)) ⊎ ((from : ℕ) × (v ≡ ExportFrom n from)))))))
+IsOfBoard n v = (v ≡ Listing n) ⊎ ((v ≡ Export n) ⊎ ((v ≡ Todo n) ⊎ ((v ≡ People n) ⊎ ((v ≡ History n) ⊎ ((from : ℕ) × (v ≡ HistoryFrom n from))))))
 
 pub shows_role : (s : State) (name : List ℕ) (v : View) (n m : ℕ) (r : Option Refusal) → IsGoodWorld s.world → IsOfBoard n v
     → r ≡ refusal_without (role_on s.world n (number_of s.world name)) → r ≡ refusal_in (view_of s name v m)
@@ -207,10 +207,8 @@ shows_role s name v n m r good is told =
       | inr (inr (inl here)) ↦ told ∙ shows_board (λ b. file_text (shown b m)) s.world name n good ∙ ap (λ x. refusal_in (view_of s name x m)) (sym here)
       | inr (inr (inr (inl here))) ↦ told ∙ shows_people s.world name n ∙ ap (λ x. refusal_in (view_of s name x m)) (sym here)
       | inr (inr (inr (inr (inl here)))) ↦ told ∙ shows_board (λ b. page_text s b which.Last) s.world name n good ∙ ap (λ x. refusal_in (view_of s name x m)) (sym here)
-      | inr (inr (inr (inr (inr (inl (from, here)))))) ↦
+      | inr (inr (inr (inr (inr (from, here))))) ↦
           told ∙ shows_board (λ b. page_text s b (which.From from)) s.world name n good ∙ ap (λ x. refusal_in (view_of s name x m)) (sym here)
-      | inr (inr (inr (inr (inr (inr (from, here)))))) ↦
-          told ∙ shows_board (λ b. export_from from b m) s.world name n good ∙ ap (λ x. refusal_in (view_of s name x m)) (sym here)
     ]
 
 -- the views of one task of a board

@@ -1,5 +1,5 @@
 -- What a view shows.
-use Rattle.std.specs.Prelude.{ℕ, ◌-◌, List, drop, Option, Some, None, Result, Ok, Err, find, if◌then◌else◌, map}
+use Rattle.std.specs.Prelude.{ℕ, List, Option, Some, None, Result, Ok, Err, find, if◌then◌else◌, map}
 use Rattle.tb_task.specs.declared.task.Task.{Task}
 use Rattle.tb_json.specs.ListText.{list_text}
 use Rattle.tb_json.specs.Writing.{shown_text}
@@ -21,21 +21,15 @@ use Rattle.tb_calls.specs.declared.reply.Reply.{Reply}
 use Rattle.tb_calls.specs.declared.role_bodies.PersonRole.{PersonRole}
 use Rattle.tb_calls.specs.RoleBodies.{me_text, people_text}
 use Rattle.tb_calls.specs.declared.view.View.{View}
-use Rattle.tb_calls.specs.declared.view.View.TheVariants.{Export, ExportFrom, History, HistoryFrom, HistoryOf, Listing, Me, News, One, People, Todo}
+use Rattle.tb_calls.specs.declared.view.View.TheVariants.{Export, History, HistoryFrom, HistoryOf, Listing, Me, One, People, Todo}
 use Rattle.tb_calls.specs.Call.{State, unknown_caller}
 use Rattle.tb_calls.specs.History.{history_seen}
-use Rattle.tb_calls.specs.News.{news_of, news_text}
 use Rattle.tb_calls.specs.Roles.{boards_of, people_for}
 use Rattle.tb_calls.specs.Reply.{reply_of}
 
 -- the JSON of all tasks
 abbrev pub export_text : Board → ℕ → List ℕ
 export_text b m = list_text (map shown_text (shown b m))
-
--- the JSON of the tasks from a place on, which is counted from 1
--- Rule: a task has the mask that it has among all tasks, from whichever place on they are shown. Tried by export_from.
-abbrev pub export_from : ℕ → Board → ℕ → List ℕ
-export_from from b m = list_text (map shown_text (drop (from - 1) (shown b m)))
 
 -- the JSON of one task
 abbrev pub one_text : Board → Option Task → ℕ → Result (List ℕ) Refusal
@@ -71,7 +65,6 @@ people_shown n (Some people) = Ok (people_text n people)
 abbrev pub view_of : State → List ℕ → View → ℕ → Result (List ℕ) Refusal
 view_of s name (Listing n) m = on_board s.world name n (λ b. Ok (listing b m))
 view_of s name (Export n) m = on_board s.world name n (λ b. Ok (export_text b m))
-view_of s name (ExportFrom n from) m = on_board s.world name n (λ b. Ok (export_from from b m))
 view_of s name (Todo n) m = on_board s.world name n (λ b. Ok (file_text (shown b m)))
 view_of s name (One n id) m =
     on_board s.world name n (λ b. one_text b (find (has_id id) b.tasks) m)
@@ -82,7 +75,6 @@ view_of s name (HistoryFrom n from) m =
 view_of s name (HistoryOf n id) m =
     on_board s.world name n (λ b. page_about s b (place_in (ids b.tasks) id))
 view_of s name Me m = Ok (me_text name (boards_of s.world name))
-view_of s name News m = Ok (news_text (news_of s name) m)
 
 unfoldable pub view_reply : Result (List ℕ) Refusal → Reply
 view_reply (Ok body) = record { number = 0; status = 200; body = body }

@@ -83,13 +83,12 @@ fn find_refusal<K: Keep>(
         | View::Todo(board)
         | View::People(board)
         | View::History(board)
-        | View::HistoryFrom(board, _)
-        | View::ExportFrom(board, _) => refusal_on(keep, alloc, name, *board),
+        | View::HistoryFrom(board, _) => refusal_on(keep, alloc, name, *board),
         View::One(board, id) | View::HistoryOf(board, id) => {
             let seen = see(keep, alloc, name, *board)?;
             Ok(refusal_of_one(&seen, *id))
         }
-        View::Me | View::News => Ok(None),
+        View::Me => Ok(None),
     }
 }
 

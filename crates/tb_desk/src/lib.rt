@@ -8,12 +8,10 @@
 mod admitting;
 mod desk;
 mod entry_list;
-mod exporting;
 mod handling;
 pub mod laws;
 mod list_keep;
 mod looking_back;
-mod news;
 mod pages;
 mod viewing;
 

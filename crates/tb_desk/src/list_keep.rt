@@ -5,14 +5,13 @@ ghost use Rattle.tb_calls.specs.Call.{name_cmp, opening};
 ghost use Rattle.tb_desk.specs.ListKeep.{call_name, named};
 
 use crate::entry_list::{BoardEntry, entry_by, put_last};
-use crate::news::news_of;
 use crate::pages::page_of;
 use std::alloc::{AllocError, Global};
 use std::collections::BTreeMap;
 use tb_board::{Board, Change, Key, Name, World};
 use tb_calls::{
-    BoardNews, BoardRole, Call, Keep, KeepFault, KeptReply, PersonRole, Reply, Written, boards_of,
-    kept_reply, key_in, people_for,
+    BoardRole, Call, Keep, KeepFault, KeptReply, PersonRole, Reply, Written, boards_of, kept_reply,
+    key_in, people_for,
 };
 use tb_core::{Command, Seen, look_for};
 use tb_deeds::Deed;
@@ -94,10 +93,6 @@ impl Keep for ListKeep {
 
     fn boards_of(&mut self, alloc: Global, name: &Name) -> Result<Items<BoardRole>, KeepFault> {
         Ok(boards_of(alloc, &self.world, name)?)
-    }
-
-    fn news(&mut self, alloc: Global, name: &Name) -> Result<Items<BoardNews>, KeepFault> {
-        Ok(news_of(alloc, &self.world, self.entries.as_slice(), name)?)
     }
 
     fn people_for(

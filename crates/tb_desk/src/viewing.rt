@@ -10,19 +10,18 @@ ghost use Rattle.tb_todotxt.specs.FileTexts.{file_text};
 ghost use Rattle.tb_calls.specs.declared.fault.KeepFault.TheVariants.{Store};
 ghost use Rattle.tb_calls.specs.Call.{State};
 ghost use Rattle.tb_calls.specs.Keep.{IsStill, is_store};
-ghost use Rattle.tb_desk.specs.Viewing.{one_text, people_shown, seen_on, shown_in, view_of, view_reply};
+ghost use Rattle.tb_desk.specs.Viewing.{export_text, one_text, people_shown, seen_on, shown_in, view_of, view_reply};
 
 use crate::desk::Desk;
-use crate::exporting::show_export;
 use crate::looking_back::{show_history, show_history_of};
 use std::alloc::{AllocError, Global};
 use tb_board::{Board, Key, Name};
 use tb_calls::{
-    Keep, KeepFault, PersonRole, Reply, View, reply_to_refused, write_me, write_news, write_people,
+    Keep, KeepFault, PersonRole, Reply, View, reply_to_refused, write_me, write_people,
 };
 use tb_core::{BoardCommand, Command, Refusal, SeenBoard};
 use tb_history::Which;
-use tb_json::write_task;
+use tb_json::{write_task, write_tasks};
 use tb_report::{listing, shown, shown_task};
 use tb_task::{Moment, Task, TaskId};
 use tb_todotxt::write_file;
@@ -77,8 +76,10 @@ fn look_at<K: Keep>(
             let seen = see(keep, alloc, name, *board)?;
             Ok(show_listing(alloc, &seen, at)?)
         }
-        View::Export(board) => show_export(keep, alloc, name, *board, 1, at),
-        View::ExportFrom(board, from) => show_export(keep, alloc, name, *board, *from, at),
+        View::Export(board) => {
+            let seen = see(keep, alloc, name, *board)?;
+            Ok(show_export(alloc, &seen, at)?)
+        }
         View::Todo(board) => {
             let seen = see(keep, alloc, name, *board)?;
             Ok(show_todo(alloc, &seen, at)?)
@@ -99,10 +100,6 @@ fn look_at<K: Keep>(
         View::Me => {
             let boards = keep.boards_of(alloc, name)?;
             Ok(Ok(write_me(alloc, name, boards.as_slice())?))
-        }
-        View::News => {
-            let boards = keep.news(alloc, name)?;
-            Ok(Ok(write_news(alloc, boards.as_slice(), at)?))
         }
     }
 }
@@ -156,6 +153,21 @@ fn show_listing(
         Some(seen) => Ok(Ok(listing(alloc, seen.board.get(), at)?)),
         None => Ok(Err(Refusal::NoBoard)),
     }
+}
+
+/// All tasks of a board as JSON.
+fn show_export(
+    alloc: Global,
+    seen: &Option<SeenBoard>,
+    at: Moment,
+) -> Result<Result<Text, Refusal>, AllocError>
+    ensures { IfOk result (λ shown. shown ≡ seen_on seen.now (λ b. Ok (export_text b at))) }
+{
+    let Some(seen) = seen else {
+        return Ok(Err(Refusal::NoBoard));
+    };
+    let tasks = shown(alloc, seen.board.get(), at)?;
+    Ok(Ok(write_tasks(alloc, tasks.as_slice())?))
 }
 
 /// A line for each task of a board that has one.

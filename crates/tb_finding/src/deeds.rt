@@ -172,8 +172,7 @@ fn verb_of_word(word: Word) -> Option<&'static str>
         | Word::People
         | Word::History
         | Word::HistoryOf
-        | Word::Me
-        | Word::News => None,
+        | Word::Me => None,
     }
 }
 

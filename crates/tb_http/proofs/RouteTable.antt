@@ -11,11 +11,11 @@ AllFit (row ∷ table) rows = IsTrue (fits row.0 rows) × AllFit table (with_rou
 
 pub alone_fit : AllFit alone_routes []
 unfolding matchit_on_literals fits with_route
-alone_fit = (refl, (refl, (refl, (refl, (refl, (refl, tt))))))
+alone_fit = (refl, (refl, (refl, (refl, (refl, tt)))))
 
 pub boards_fit : AllFit board_routes alone_rows
 unfolding matchit_on_literals fits with_route alone_rows
-boards_fit = (refl, (refl, (refl, (refl, (refl, (refl, (refl, (refl, (refl, (refl, (refl, (refl, (refl, (refl, (refl, tt)))))))))))))))
+boards_fit = (refl, (refl, (refl, (refl, (refl, (refl, (refl, (refl, (refl, (refl, (refl, (refl, (refl, (refl, tt))))))))))))))
 
 pub tasks_fit : AllFit task_routes board_rows
 unfolding matchit_on_literals fits with_route alone_rows board_rows

@@ -8,7 +8,7 @@ use Rattle.tb_board.specs.Names.{read_name}
 use Rattle.tb_http.specs.declared.fault.WireFault.{WireFault}
 use Rattle.tb_http.specs.declared.fault.WireFault.TheVariants as wire
 use Rattle.tb_http.specs.declared.kind.Kind.{Kind}
-use Rattle.tb_http.specs.declared.kind.Kind.TheVariants.{Me, News, BoardView, Task, ExportFrom, HistoryFrom, TaskHistory, People, OwnKey, PersonKey, Boards, Roles, Take, BoardCall, TaskCall}
+use Rattle.tb_http.specs.declared.kind.Kind.TheVariants.{Me, BoardView, Task, HistoryFrom, TaskHistory, People, OwnKey, PersonKey, Boards, Roles, Take, BoardCall, TaskCall}
 use Rattle.tb_http.specs.declared.resource.CallTarget.TheVariants as target
 use Rattle.tb_http.specs.declared.resource.Resource.{Resource}
 use Rattle.tb_http.specs.declared.resource.Resource.TheVariants as resource
@@ -35,14 +35,14 @@ person_in path = read_name (segment path 2)
 abbrev pub board_in : List ℕ → Option ℕ
 board_in path = board_number (segment path 2)
 
--- or `/export/{from}` or `/history/{n}`
-abbrev pub number_in : List ℕ → Option ℕ
-number_in path = board_number (segment path 4)
+-- or `/history/{n}`
+abbrev pub entry_in : List ℕ → Option ℕ
+entry_in path = board_number (segment path 4)
 
 abbrev pub task_in : List ℕ → Option ℕ
 task_in path = read_id (segment path 4)
 
--- a resource of a board and of something of it, a task, a place or an entry
+-- a resource of a board and of something of it, a task or an entry
 abbrev pub of_both : (ℕ → ℕ → Resource) → Option ℕ → Option ℕ → Option Resource
 of_both resource (Some board) (Some part) = Some (resource board part)
 of_both resource (Some board) None = None
@@ -51,11 +51,9 @@ of_both resource None part = None
 -- what a path of this kind asks for, if its parts can be read
 unfoldable pub resource_of : Kind → List ℕ → Option Resource
 resource_of Me path = Some resource.Me
-resource_of News path = Some resource.News
 resource_of (BoardView view) path = option_map (λ board. resource.Board board view) (board_in path)
 resource_of Task path = of_both resource.Task (board_in path) (task_in path)
-resource_of ExportFrom path = of_both resource.ExportFrom (board_in path) (number_in path)
-resource_of HistoryFrom path = of_both resource.HistoryFrom (board_in path) (number_in path)
+resource_of HistoryFrom path = of_both resource.HistoryFrom (board_in path) (entry_in path)
 resource_of TaskHistory path = of_both resource.TaskHistory (board_in path) (task_in path)
 resource_of People path = Some (resource.Call target.People)
 resource_of OwnKey path = Some (resource.Call target.OwnKey)
@@ -73,10 +71,8 @@ resource_of (TaskCall call) path =
 -- the one method by which a resource is asked for
 abbrev pub verb_of : Resource → Verb
 verb_of resource.Me = Get
-verb_of resource.News = Get
 verb_of (resource.Board board view) = Get
 verb_of (resource.Task board task) = Get
-verb_of (resource.ExportFrom board place) = Get
 verb_of (resource.HistoryFrom board number) = Get
 verb_of (resource.TaskHistory board task) = Get
 verb_of (resource.Call target) = Post

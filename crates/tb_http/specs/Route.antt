@@ -10,7 +10,7 @@ use Rattle.matchit.specs.declared.error.InsertError.{InsertError}
 use Rattle.tb_http.specs.declared.kind.BoardCall.TheVariants.{Add, Sweep, Ahead, Title, Import, ImportTodo}
 use Rattle.tb_http.specs.declared.kind.BoardView.TheVariants.{List as ListTasks, Export, Todo, People as PeopleOn, History}
 use Rattle.tb_http.specs.declared.kind.Kind.{Kind}
-use Rattle.tb_http.specs.declared.kind.Kind.TheVariants.{Me, News, BoardView, Task, ExportFrom, HistoryFrom, TaskHistory, People, OwnKey, PersonKey, Boards, Roles, Take, BoardCall, TaskCall}
+use Rattle.tb_http.specs.declared.kind.Kind.TheVariants.{Me, BoardView, Task, HistoryFrom, TaskHistory, People, OwnKey, PersonKey, Boards, Roles, Take, BoardCall, TaskCall}
 use Rattle.tb_http.specs.declared.kind.TaskCall.TheVariants.{Done, Delete, Reopen, Start, Stop, Modify, Annotate, Denotate, Depend, Undepend}
 use Rattle.tb_http.specs.declared.route.Verb.{Verb}
 use Rattle.tb_http.specs.declared.route.Verb.TheVariants.{Get, Post}
@@ -22,7 +22,6 @@ alone_routes =
     ∷ (codes "/boards", Boards)
     ∷ (codes "/me", Me)
     ∷ (codes "/me/key", OwnKey)
-    ∷ (codes "/me/news", News)
     ∷ (codes "/people/{name}/key", PersonKey)
     ∷ []
 
@@ -38,7 +37,6 @@ board_routes =
     ∷ (codes "/boards/{b}/import-todo", BoardCall ImportTodo)
     ∷ (codes "/boards/{b}/list", BoardView ListTasks)
     ∷ (codes "/boards/{b}/export", BoardView Export)
-    ∷ (codes "/boards/{b}/export/{from}", ExportFrom)
     ∷ (codes "/boards/{b}/todo", BoardView Todo)
     ∷ (codes "/boards/{b}/people", BoardView PeopleOn)
     ∷ (codes "/boards/{b}/history", BoardView History)

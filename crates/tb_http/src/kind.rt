@@ -41,13 +41,9 @@ pub enum TaskCall {
 #[derive(Clone, Copy, Debug, PartialEq, Eq)]
 pub enum Kind {
     Me,
-    /// How far the sender's boards have come.
-    News,
     BoardView(BoardView),
     /// One task.
     Task,
-    /// The tasks of a board from a place on.
-    ExportFrom,
     /// The entries of a board's history from a number on.
     HistoryFrom,
     /// The last entries about one task.

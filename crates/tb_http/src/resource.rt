@@ -25,15 +25,12 @@ pub enum CallTarget<'a> {
     Task(u32, TaskId, TaskCall),
 }
 
-/// What a path asks for: the boards of the sender, how far they have come, a view of a board or of a task, a part of a history, or a call.
+/// What a path asks for: the boards of the sender, a view of a board or of a task, a part of a history, or a call.
 #[derive(Debug, Drop)]
 pub enum Resource<'a> {
     Me,
-    News,
     Board(u32, BoardView),
     Task(u32, TaskId),
-    /// The tasks of a board from a place on.
-    ExportFrom(u32, u32),
     /// The entries of a board's history from a number on.
     HistoryFrom(u32, u32),
     TaskHistory(u32, TaskId),
@@ -95,8 +92,8 @@ fn person_in(path: &str) -> Option<PersonName<'_>>
 }
 
 #[tactic(auto, unfolding(crate::specs::Resource::board_number))]
-fn number_in(path: &str) -> Option<u32>
-    ensures { result ≡ resources.number_in path.now }
+fn entry_in(path: &str) -> Option<u32>
+    ensures { result ≡ resources.entry_in path.now }
 {
     read_number(segment(path, 4), u32::MAX)
 }
@@ -114,11 +111,9 @@ fn resource_of(kind: Kind, path: &str) -> Option<Resource<'_>>
 {
     let target = match kind {
         Kind::Me => return Some(Resource::Me),
-        Kind::News => return Some(Resource::News),
         Kind::BoardView(view) => return Some(Resource::Board(board_in(path)?, view)),
         Kind::Task => return Some(Resource::Task(board_in(path)?, task_in(path)?)),
-        Kind::ExportFrom => return Some(Resource::ExportFrom(board_in(path)?, number_in(path)?)),
-        Kind::HistoryFrom => return Some(Resource::HistoryFrom(board_in(path)?, number_in(path)?)),
+        Kind::HistoryFrom => return Some(Resource::HistoryFrom(board_in(path)?, entry_in(path)?)),
         Kind::TaskHistory => return Some(Resource::TaskHistory(board_in(path)?, task_in(path)?)),
         Kind::People => CallTarget::People,
         Kind::OwnKey => CallTarget::OwnKey,
@@ -145,10 +140,8 @@ impl Resource<'_> {
     {
         match self {
             Resource::Me
-            | Resource::News
             | Resource::Board(_, _)
             | Resource::Task(_, _)
-            | Resource::ExportFrom(_, _)
             | Resource::HistoryFrom(_, _)
             | Resource::TaskHistory(_, _) => Verb::Get,
             Resource::Call(_) => Verb::Post,

@@ -55,7 +55,6 @@ fn add_alone(to: &mut Router<Kind>) -> Result<(), InsertError>
     add(to, "/boards", Kind::Boards)?;
     add(to, "/me", Kind::Me)?;
     add(to, "/me/key", Kind::OwnKey)?;
-    add(to, "/me/news", Kind::News)?;
     add(to, "/people/{name}/key", Kind::PersonKey)
 }
 
@@ -79,7 +78,6 @@ fn add_boards(to: &mut Router<Kind>) -> Result<(), InsertError>
     )?;
     add(to, "/boards/{b}/list", Kind::BoardView(BoardView::List))?;
     add(to, "/boards/{b}/export", Kind::BoardView(BoardView::Export))?;
-    add(to, "/boards/{b}/export/{from}", Kind::ExportFrom)?;
     add(to, "/boards/{b}/todo", Kind::BoardView(BoardView::Todo))?;
     add(to, "/boards/{b}/people", Kind::BoardView(BoardView::People))?;
     add(

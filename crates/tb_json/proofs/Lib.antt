@@ -3,7 +3,6 @@ pub mod Bytes
 pub mod ExtraSteps
 pub mod ListSteps
 pub mod Lookups
-pub mod MemberCounts
 pub mod Names
 pub mod ReadBack
 pub mod StoredLaws

@@ -1,6 +1,5 @@
 pub mod Annotations
 pub mod Attribute
-pub mod Edit
 pub mod Extras
 pub mod Fields
 pub mod Import

@@ -4,7 +4,6 @@
 
 mod annotations;
 mod attribute;
-mod edit;
 mod extras;
 mod fault;
 mod fields;
@@ -21,7 +20,6 @@ mod stored;
 mod values;
 mod writing;
 
-pub use edit::{EditObject, read_edit};
 pub use fault::JsonFault;
 pub use import::read_import;
 pub use import_fault::ImportFault;

@@ -1,9 +1,8 @@
-//! What is looked up for the views of roles, and of how far boards have come.
+//! What is looked up for the views of roles.
 
 ghost use Rattle.std.specs.Prelude.{◌≡◌, IfOk, false};
 ghost use Rattle.sqlite.specs.Held.{state};
 ghost use Rattle.tb_board.specs.World.{role_of};
-ghost use Rattle.tb_calls.specs.News.{news_of};
 ghost use Rattle.tb_calls.specs.Roles.{boards_of, people_for, people_on, where_some};
 ghost use Rattle.tb_sql.specs.Opening.{IsAsBefore};
 ghost use Rattle.tb_lookup.specs.Reopening.{OfState};
@@ -11,9 +10,8 @@ ghost use Rattle.tb_lookup.specs.Reopening.{OfState};
 use sqlite::{Alter, Connection};
 use std::alloc::Global;
 use tb_board::Name;
-use tb_calls::{BoardNews, BoardRole, PersonRole};
+use tb_calls::{BoardRole, PersonRole};
 use tb_lookup::boards_of::stored_boards_of;
-use tb_lookup::news::stored_news;
 use tb_lookup::people::stored_person;
 use tb_lookup::people_on::stored_people_on;
 use tb_lookup::roles::roles_found;
@@ -37,27 +35,6 @@ pub(crate) fn find_boards<S: Alter>(
     }
     match stored_person(alloc, conn, name)? {
         Some(person) => stored_boards_of(alloc, conn, person.number),
-        None => Ok(Items::new(alloc)),
-    }
-}
-
-/// How far the boards have come on which the person of a name has a role.
-pub(crate) fn find_news<S: Alter>(
-    alloc: Global,
-    conn: &mut Connection<S>,
-    name: &Name,
-) -> Result<Items<BoardNews>, StoreFault>
-    ensures idle { conn.old.in_transaction ≡ false → conn.new.in_transaction ≡ false }
-    ensures found { IfOk result
-        (λ boards. OfState (state S.Store conn.old) (state S.Store conn.new)
-        (λ s. boards ≡ news_of s name.now)) }
-    ensures same { IsAsBefore (state S.Store conn.old) (state S.Store conn.new) }
-{
-    if !conn.is_autocommit() {
-        return Err(StoreFault::Store);
-    }
-    match stored_person(alloc, conn, name)? {
-        Some(person) => stored_news(alloc, conn, person.number),
         None => Ok(Items::new(alloc)),
     }
 }

@@ -17,16 +17,14 @@ ghost use Rattle.tb_keeper.specs.Using.{IsUsedToCommit};
 
 use crate::histories::find_history;
 use crate::looking::{find_key, find_reply, look_up};
-use crate::members::{find_boards, find_news, find_people};
+use crate::members::{find_boards, find_people};
 use crate::people_at_hand::People;
 use crate::written_bytes::with_more;
 use sqlite::{Alter, Connection};
 use std::alloc::Global;
 use tb_board::{Board, Change, Key, Name};
 use tb_cache::BoardCache;
-use tb_calls::{
-    BoardNews, BoardRole, Call, Keep, KeepFault, KeptReply, PersonRole, Reply, Written,
-};
+use tb_calls::{BoardRole, Call, Keep, KeepFault, KeptReply, PersonRole, Reply, Written};
 use tb_core::{Command, Seen};
 use tb_deeds::Deed;
 use tb_history::{HistoryPage, Which};
@@ -216,14 +214,6 @@ impl<S: Alter> Keep for SqlKeep<S> {
             return Err(KeepFault::Store);
         }
         let end = find_boards(alloc, &mut self.conn, name);
-        self.settle(end)
-    }
-
-    fn news(&mut self, alloc: Global, name: &Name) -> Result<Items<BoardNews>, KeepFault> {
-        if self.failed {
-            return Err(KeepFault::Store);
-        }
-        let end = find_news(alloc, &mut self.conn, name);
         self.settle(end)
     }
 

@@ -25,5 +25,3 @@ pub mod StoredRoles
 pub mod Within
 pub mod WorldRead
 pub mod Excused
-pub mod FoundNews
-pub mod TaskCounts

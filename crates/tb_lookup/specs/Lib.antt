@@ -4,6 +4,5 @@ pub mod People
 pub mod Replies
 pub mod Roles
 pub mod Migrating
-pub mod News
 pub mod Reopening
 pub mod Stored

@@ -39,8 +39,7 @@ pub fn stored_boards_of<S: Alter>(
     with_titles(alloc, conn, roles.as_slice())
 }
 
-/// The roles of the person of a number, by board.
-pub(crate) fn roles_of<S: Alter>(
+fn roles_of<S: Alter>(
     alloc: Global,
     conn: &mut Connection<S>,
     person: u32,

@@ -4,7 +4,7 @@ use Rattle.std.specs.List.{filter_map}
 use Rattle.std.specs.Str.{is_utf8}
 use Rattle.tb_calls.specs.declared.call.Call.{Call}
 use Rattle.tb_calls.specs.declared.view.View.{View}
-use Rattle.tb_calls.specs.declared.view.View.TheVariants.{Listing, Export, ExportFrom, Todo, One, People, History, HistoryFrom, HistoryOf, Me, News}
+use Rattle.tb_calls.specs.declared.view.View.TheVariants.{Listing, Export, Todo, One, People, History, HistoryFrom, HistoryOf, Me}
 use Rattle.tb_calls.specs.Call.{State, once, plain, reply, opening}
 use Rattle.tb_desk.specs.Viewing.{shown_in}
 use Rattle.tb_calls.specs.declared.reply.Reply.{Reply}
@@ -30,11 +30,10 @@ is_readable line = nat_le (length line) longest_body && is_utf8 line
 unfoldable pub request_of : List ℕ → Result Asked Unreadable
 request_of line = if is_readable line then asked line else Err BadLine
 
--- one task, people, histories, boards and news are shown on a line of their own
+-- one task, people, histories and boards are shown on a line of their own
 abbrev pub accepted_text : View → List ℕ → List ℕ
 accepted_text (Listing n) body = body
 accepted_text (Export n) body = body
-accepted_text (ExportFrom n from) body = body
 accepted_text (Todo n) body = body
 accepted_text (One n id) body = body ++ 10 ∷ []
 accepted_text (People n) body = body ++ 10 ∷ []
@@ -42,7 +41,6 @@ accepted_text (History n) body = body ++ 10 ∷ []
 accepted_text (HistoryFrom n from) body = body ++ 10 ∷ []
 accepted_text (HistoryOf n id) body = body ++ 10 ∷ []
 accepted_text Me body = body ++ 10 ∷ []
-accepted_text News body = body ++ 10 ∷ []
 
 -- a view's text, or the reply that refuses it
 abbrev pub view_text : View → Reply → List ℕ

@@ -11,7 +11,7 @@ use Rattle.tb_core.specs.declared.command.Import.TheVariants.{Json, Todo as Line
 use Rattle.tb_script.specs.declared.asked.Request.{Request}
 use Rattle.tb_script.specs.declared.asked.Request.TheVariants.{Call, View as ViewOf}
 use Rattle.tb_calls.specs.Word.{word_named}
-use Rattle.tb_calls.specs.declared.view.View.TheVariants.{Listing, Export, ExportFrom, Todo, One, People, History, HistoryFrom, HistoryOf, Me, News}
+use Rattle.tb_calls.specs.declared.view.View.TheVariants.{Listing, Export, Todo, One, People, History, HistoryFrom, HistoryOf, Me}
 use Rattle.tb_calls.specs.declared.word.Word.{Word}
 use Rattle.tb_calls.specs.declared.word.Word.TheVariants as word
 use Rattle.tb_script.specs.declared.line_fault.Unreadable.{Unreadable}
@@ -67,23 +67,10 @@ listing board = do
   n ← or_bad_line (board_number board)
   Ok (ViewOf (Listing n))
 
-abbrev pub all_tasks : List ℕ → Result Request Unreadable
-all_tasks board = do
+abbrev pub export : List ℕ → Result Request Unreadable
+export board = do
   n ← or_bad_line (board_number board)
   Ok (ViewOf (Export n))
-
-abbrev pub tasks_from : List ℕ → List ℕ → Result Request Unreadable
-tasks_from board place = do
-  n ← or_bad_line (board_number board)
-  from ← or_bad_line (board_number place)
-  Ok (ViewOf (ExportFrom n from))
-
--- the place from which on is left out where all tasks are asked for
-abbrev pub export : List (List ℕ) → Result Request Unreadable
-export (board ∷ []) = all_tasks board
-export (board ∷ place ∷ []) = tasks_from board place
-export [] = Err BadLine
-export (a ∷ b ∷ c ∷ more) = Err BadLine
 
 abbrev pub todo : List ℕ → Result Request Unreadable
 todo board = do
@@ -227,7 +214,7 @@ taking board = do
 
 unfoldable pub request_for : Word → List (List ℕ) → ℕ → Result Request Unreadable
 request_for word.List arguments at = one listing arguments
-request_for word.Export arguments at = export arguments
+request_for word.Export arguments at = one export arguments
 request_for word.Todo arguments at = one todo arguments
 request_for word.Task arguments at = showing arguments
 request_for word.Add arguments at = two (adding at) arguments
@@ -256,7 +243,6 @@ request_for word.People arguments at = one people arguments
 request_for word.History arguments at = history arguments
 request_for word.HistoryOf arguments at = history_of arguments
 request_for word.Me arguments at = none (ViewOf Me) arguments
-request_for word.News arguments at = none (ViewOf News) arguments
 
 -- a word that is none makes a line that can't be read
 unfoldable pub request_in : List ℕ → List (List ℕ) → ℕ → Result Request Unreadable

@@ -131,11 +131,8 @@ fn write_view(alloc: Global, view: &View, reply: Reply) -> Result<Text, AllocErr
         | View::History(_)
         | View::HistoryFrom(_, _)
         | View::HistoryOf(_, _)
-        | View::Me
-        | View::News => end_line(reply.body),
-        View::Listing(_) | View::Export(_) | View::ExportFrom(_, _) | View::Todo(_) => Ok(
-            reply.body,
-        ),
+        | View::Me => end_line(reply.body),
+        View::Listing(_) | View::Export(_) | View::Todo(_) => Ok(reply.body),
     }
 }
 

@@ -4,8 +4,8 @@ ghost use Rattle.tb_core.specs.declared.action.Action.TheVariants.{Annotate, Den
 ghost use Rattle.tb_core.specs.declared.command.Command.TheVariants.{OnBoard};
 ghost use Rattle.tb_script.specs.Outcome.{Reads};
 ghost use Rattle.tb_script.specs.declared.asked.Request.TheVariants.{Call, View as ViewOf};
-ghost use Rattle.tb_calls.specs.declared.view.View.TheVariants.{Me, News};
-ghost use Rattle.tb_script.specs.Words.{acting, acting_with, adding, all_tasks, entries_from, history, history_of, last_entries, new_board, export, set_role, importing, importing_todo, new_person, link, linking, listing, modifying, none, one, own_key, people, request_for, request_in, retitling, set_ahead, set_key, showing, sweeping, taking, task, tasks_from, three, todo, two, unlinking};
+ghost use Rattle.tb_calls.specs.declared.view.View.TheVariants.{Me};
+ghost use Rattle.tb_script.specs.Words.{acting, acting_with, adding, entries_from, history, history_of, last_entries, new_board, export, set_role, importing, importing_todo, new_person, link, linking, listing, modifying, none, one, own_key, people, request_for, request_in, retitling, set_ahead, set_key, showing, sweeping, taking, task, three, todo, two, unlinking};
 
 use crate::arguments::{
     read_ahead, read_board, read_heading, read_key_or_none, read_person, read_role, read_secret,
@@ -77,7 +77,6 @@ fn request_for(
         Word::History => read_history(arguments),
         Word::HistoryOf => read_history_of(arguments),
         Word::Me => read_me(arguments),
-        Word::News => read_news(arguments),
     }
 }
 
@@ -137,27 +136,12 @@ fn read_listing(arguments: &[&str]) -> Result<Request, LineFault>
 }
 
 fn read_export(arguments: &[&str]) -> Result<Request, LineFault>
-    ensures { Reads result (export (map (λ argument. argument.now) arguments.entry.now)) }
+    ensures { Reads result (one export (map (λ argument. argument.now) arguments.entry.now)) }
 {
-    match arguments {
-        [board] => read_all_tasks(board),
-        [board, place] => read_tasks_from(board, place),
-        _ => Err(LineFault::bad_line()),
-    }
-}
-
-fn read_all_tasks(board: &str) -> Result<Request, LineFault>
-    ensures { Reads result (all_tasks board.now) }
-{
+    let [board] = arguments else {
+        return Err(LineFault::bad_line());
+    };
     Ok(Request::View(View::Export(read_board(board)?)))
-}
-
-fn read_tasks_from(board: &str, place: &str) -> Result<Request, LineFault>
-    ensures { Reads result (tasks_from board.now place.now) }
-{
-    let board = read_board(board)?;
-    let place = read_board(place)?;
-    Ok(Request::View(View::ExportFrom(board, place)))
 }
 
 fn read_todo(arguments: &[&str]) -> Result<Request, LineFault>
@@ -221,16 +205,6 @@ fn read_me(arguments: &[&str]) -> Result<Request, LineFault>
 {
     match arguments {
         [] => Ok(Request::View(View::Me)),
-        _ => Err(LineFault::bad_line()),
-    }
-}
-
-fn read_news(arguments: &[&str]) -> Result<Request, LineFault>
-    ensures { Reads result
-        (none (ViewOf News) (map (λ argument. argument.now) arguments.entry.now)) }
-{
-    match arguments {
-        [] => Ok(Request::View(View::News)),
         _ => Err(LineFault::bad_line()),
     }
 }

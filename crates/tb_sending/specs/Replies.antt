@@ -43,7 +43,6 @@ is_lines word.People = false
 is_lines word.History = false
 is_lines word.HistoryOf = false
 is_lines word.Me = false
-is_lines word.News = false
 
 abbrev pub asks_for_lines : List Text → Bool
 asks_for_lines [] = false

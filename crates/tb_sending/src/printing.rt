@@ -105,8 +105,7 @@ fn is_lines(word: Word) -> bool
         | Word::People
         | Word::History
         | Word::HistoryOf
-        | Word::Me
-        | Word::News => false,
+        | Word::Me => false,
     }
 }
 

@@ -39,14 +39,12 @@ abbrev pub view_type : View → ℕ → ContentType
 view_type (view.Listing board) number = if number == 0 then PlainText else Json
 view_type (view.Todo board) number = if number == 0 then PlainText else Json
 view_type (view.Export board) number = Json
-view_type (view.ExportFrom board from) number = Json
 view_type (view.One board id) number = Json
 view_type (view.People board) number = Json
 view_type (view.History board) number = Json
 view_type (view.HistoryFrom board from) number = Json
 view_type (view.HistoryOf board id) number = Json
 view_type view.Me number = Json
-view_type view.News number = Json
 
 abbrev pub told_view : View → Reply → Response
 told_view view reply = told_reply (view_type view reply.number) reply

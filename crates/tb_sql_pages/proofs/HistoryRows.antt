@@ -133,7 +133,7 @@ entries_between old new board first last rows shown = record {
 abbrev falling : Key
 falling = record { collation = Binary; descending = true }
 
-abbrev pub from_last : List (Term × Key)
+abbrev from_last : List (Term × Key)
 from_last = (col 1 2, falling) ∷ []
 
 abbrev pub task_text : List ℕ
@@ -164,7 +164,7 @@ entries_of_task old new board place rows shown = record {
 
 -- ---- the last number
 
-abbrev pub number_alone : List Term
+abbrev number_alone : List Term
 number_alone = col 1 2 ∷ []
 
 abbrev pub last_text : List ℕ
@@ -174,10 +174,10 @@ asks_last : AsksUpTo 1 last_text history_tree by_one number_alone from_last
 unfolding understood everything
 asks_last = record { names = codes "number" ∷ []; means = record { is = refl; bare = (refl, refl) }; unlisted = refl }
 
-abbrev pub out_last : Row → Output
+abbrev out_last : Row → Output
 out_last cells = (column cells 1 ∷ [], column cells 1 ∷ [])
 
-abbrev pub out_number : ℕ → Output
+abbrev out_number : ℕ → Output
 out_number number = (Int (pos number) ∷ [], Int (pos number) ∷ [])
 
 shows_last : (params row : Row) → output_at history_tree refl by_one number_alone from_last params row ≡ out_last (drop 1 row)
@@ -187,11 +187,11 @@ shows_last params (id ∷ cells) = refl
 higher : (a b : ℕ) → IsBelow b a → output_cmp (query_of history_tree by_one number_alone from_last) (out_number a) (out_number b) ≡ Less
 higher a b before = rw value_cmp-Int (grind (arith, ints, nat_tests))
 
-abbrev pub in_first : List Row → Option ℕ
+abbrev in_first : List Row → Option ℕ
 in_first rows = option_map (λ cells. number_of (column cells 0)) (slice_get rows 0)
 
 -- of one row at most the first is all
-pub one_at_most : (rows all : List Row) → rows ≡ take 1 all → map (λ cells. number_of (column cells 0)) rows ≡ listed (in_first rows)
+one_at_most : (rows all : List Row) → rows ≡ take 1 all → map (λ cells. number_of (column cells 0)) rows ≡ listed (in_first rows)
 one_at_most rows all is = ap (map (λ cells. number_of (column cells 0))) is ∙ short all ∙ ap (λ l. listed (in_first l)) (sym is)
   where
     short : (all : List Row) → map (λ cells. number_of (column cells 0)) (take 1 all) ≡ listed (in_first (take 1 all))

@@ -2,5 +2,4 @@ pub mod RangeTests
 pub mod Turned
 pub mod Limits
 pub mod HistoryRows
-pub mod PlaceRows
 pub mod Numbered

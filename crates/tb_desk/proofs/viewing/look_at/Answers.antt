@@ -12,13 +12,3 @@ pub returns-in-HistoryOf-clause-told : goal.returns-in-HistoryOf-clause-told
 returns-in-HistoryOf-clause-told g c honest s held known =
     IfOk-weaker c.show_history_of.result _ _ (λ shown told. told ∙ ap (λ v. view_of s c.args.name.now v c.args.at) (sym c.in-HistoryOf.is))
     (c.show_history_of.ensures.told honest s held known)
-
-pub returns-in-Export-clause-told : goal.returns-in-Export-clause-told
-returns-in-Export-clause-told g c honest s held known =
-    IfOk-weaker c.show_export.result _ _ (λ shown told. told ∙ ap (λ v. view_of s c.args.name.now v c.args.at) (sym c.in-Export.is))
-    (c.show_export.ensures.told honest s held known)
-
-pub returns-in-ExportFrom-clause-told : goal.returns-in-ExportFrom-clause-told
-returns-in-ExportFrom-clause-told g c honest s held known =
-    IfOk-weaker c.show_export-in-ExportFrom.result _ _ (λ shown told. told ∙ ap (λ v. view_of s c.args.name.now v c.args.at) (sym c.in-ExportFrom.is))
-    (c.show_export-in-ExportFrom.ensures.told honest s held known)

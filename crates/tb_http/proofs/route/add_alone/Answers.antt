@@ -17,9 +17,6 @@ add-requires-4 c = rw (c.in_ok-add-3.ensures.row, c.in_ok-add-2.ensures.row, c.i
 pub add-requires-5 : goal.add-requires-5
 add-requires-5 c = rw (c.in_ok-add-4.ensures.row, c.in_ok-add-3.ensures.row, c.in_ok-add-2.ensures.row, c.in_ok-add.ensures.row, c.requires) alone_fit.1.1.1.1.0
 
-pub add-requires-6 : goal.add-requires-6
-add-requires-6 c = rw (c.in_ok-add-5.ensures.row, c.in_ok-add-4.ensures.row, c.in_ok-add-3.ensures.row, c.in_ok-add-2.ensures.row, c.in_ok-add.ensures.row, c.requires) alone_fit.1.1.1.1.1.0
-
 pub returns-clause-rows : goal.returns-clause-rows
 unfolding alone_rows
-returns-clause-rows c = rw (c.in_ok-add-5.ensures.row, c.in_ok-add-4.ensures.row, c.in_ok-add-3.ensures.row, c.in_ok-add-2.ensures.row, c.in_ok-add.ensures.row, c.requires) at c.add-6.ensures.row
+returns-clause-rows c = rw (c.in_ok-add-4.ensures.row, c.in_ok-add-3.ensures.row, c.in_ok-add-2.ensures.row, c.in_ok-add.ensures.row, c.requires) at c.add-5.ensures.row

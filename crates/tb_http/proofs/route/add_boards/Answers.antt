@@ -44,9 +44,6 @@ add-requires-13 c = rw (c.in_ok-add-12.ensures.row, c.in_ok-add-11.ensures.row, 
 pub add-requires-14 : goal.add-requires-14
 add-requires-14 c = rw (c.in_ok-add-13.ensures.row, c.in_ok-add-12.ensures.row, c.in_ok-add-11.ensures.row, c.in_ok-add-10.ensures.row, c.in_ok-add-9.ensures.row, c.in_ok-add-8.ensures.row, c.in_ok-add-7.ensures.row, c.in_ok-add-6.ensures.row, c.in_ok-add-5.ensures.row, c.in_ok-add-4.ensures.row, c.in_ok-add-3.ensures.row, c.in_ok-add-2.ensures.row, c.in_ok-add.ensures.row, c.requires) boards_fit.1.1.1.1.1.1.1.1.1.1.1.1.1.0
 
-pub add-requires-15 : goal.add-requires-15
-add-requires-15 c = rw (c.in_ok-add-14.ensures.row, c.in_ok-add-13.ensures.row, c.in_ok-add-12.ensures.row, c.in_ok-add-11.ensures.row, c.in_ok-add-10.ensures.row, c.in_ok-add-9.ensures.row, c.in_ok-add-8.ensures.row, c.in_ok-add-7.ensures.row, c.in_ok-add-6.ensures.row, c.in_ok-add-5.ensures.row, c.in_ok-add-4.ensures.row, c.in_ok-add-3.ensures.row, c.in_ok-add-2.ensures.row, c.in_ok-add.ensures.row, c.requires) boards_fit.1.1.1.1.1.1.1.1.1.1.1.1.1.1.0
-
 pub returns-clause-rows : goal.returns-clause-rows
 unfolding board_rows
-returns-clause-rows c = rw (c.in_ok-add-14.ensures.row, c.in_ok-add-13.ensures.row, c.in_ok-add-12.ensures.row, c.in_ok-add-11.ensures.row, c.in_ok-add-10.ensures.row, c.in_ok-add-9.ensures.row, c.in_ok-add-8.ensures.row, c.in_ok-add-7.ensures.row, c.in_ok-add-6.ensures.row, c.in_ok-add-5.ensures.row, c.in_ok-add-4.ensures.row, c.in_ok-add-3.ensures.row, c.in_ok-add-2.ensures.row, c.in_ok-add.ensures.row, c.requires) at c.add-15.ensures.row
+returns-clause-rows c = rw (c.in_ok-add-13.ensures.row, c.in_ok-add-12.ensures.row, c.in_ok-add-11.ensures.row, c.in_ok-add-10.ensures.row, c.in_ok-add-9.ensures.row, c.in_ok-add-8.ensures.row, c.in_ok-add-7.ensures.row, c.in_ok-add-6.ensures.row, c.in_ok-add-5.ensures.row, c.in_ok-add-4.ensures.row, c.in_ok-add-3.ensures.row, c.in_ok-add-2.ensures.row, c.in_ok-add.ensures.row, c.requires) at c.add-14.ensures.row
